@@ -3,13 +3,13 @@ use Rattle.std.proofs.Common.{◌≡◌, ◌<◌, ℕ, zero, suc, List, [], ◌�
 use Rattle.std.specs.List.{slice_get}
 use Rattle.std.proofs.lemmas.List.{length-map}
 use Rattle.std.proofs.lemmas.List.Quantifiers.{position-Some}
-use Rattle.fo_syntax.specs.Trees.{Name, name}
-use Rattle.reading_stages.specs.Scopes.{Text}
-use Rattle.reading_stages.specs.Files.{File}
-use Rattle.reading_stages.specs.BlocksStage.{chosen, is_called}
-use Rattle.reading_stages.specs.Numbering.{IsNamed, NamedFile}
-use Rattle.reading_stages.specs.TypedFiles.{TypedFile}
-use Rattle.reading_stages.specs.TypesStage.{IsTyped}
+use Rattle.grammar.specs.Trees.{Name, name}
+use Rattle.stage_definitions.specs.Scopes.{Text}
+use Rattle.stage_definitions.specs.Files.{File}
+use Rattle.stage_definitions.specs.BlocksStage.{chosen, is_called}
+use Rattle.stage_definitions.specs.Numbering.{IsNamed, NamedFile}
+use Rattle.stage_definitions.specs.TypedFiles.{TypedFile}
+use Rattle.stage_definitions.specs.TypesStage.{IsTyped}
 
 pub chosen_within : (ns : List Name) (o : Option Text) (n : ℕ) → chosen ns o ≡ Some n → n < length ns
 chosen_within [] None n e = absurd (cc)

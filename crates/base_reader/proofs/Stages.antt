@@ -3,37 +3,37 @@ use Rattle.std.proofs.Common.{◌≡◌, ℕ, ◌<◌, ◌≤◌, List, length, 
 use Rattle.std.proofs.Common.{Ok, Err, inl, inr}
 use Rattle.std.specs.List.{filter_map, slice_get}
 use Rattle.kb_logic.specs.KnownAtoms.{KnownAtoms}
-use Rattle.fo_syntax.specs.BlockTrees as raw
-use Rattle.fo_syntax.specs.BlockTrees.{Block}
-use Rattle.fo_syntax.specs.BlockView.{IsKb, as_structure, structure_view}
-use Rattle.fo_syntax.specs.FileReads.{KbRead}
-use Rattle.fo_syntax.specs.declared.raw_blocks.RawKb.{RawKb}
-use Rattle.fo_syntax.specs.declared.error.KbError.{KbError}
-use Rattle.fo_syntax.specs.declared.error.KbError.TheVariants.{Refused, Memory}
+use Rattle.grammar.specs.BlockTrees as raw
+use Rattle.grammar.specs.BlockTrees.{Block}
+use Rattle.grammar.specs.BlockView.{IsKb, as_structure, structure_view}
+use Rattle.grammar.specs.FileReads.{KbRead}
+use Rattle.grammar.specs.declared.raw_blocks.RawKb.{RawKb}
+use Rattle.grammar.specs.declared.error.KbError.{KbError}
+use Rattle.grammar.specs.declared.error.KbError.TheVariants.{Refused, Memory}
 use Rattle.block_choice.specs.Choices as blocks
-use Rattle.reading_stages.specs.Scopes.{Text}
-use Rattle.reading_stages.specs.Files.{File}
-use Rattle.reading_stages.specs.FileTrees.{file_of}
-use Rattle.reading_stages.specs.FileView.{file_in}
-use Rattle.reading_stages.specs.BlocksStage.{IsPicked}
-use Rattle.reading_stages.specs.Failures as names
-use Rattle.reading_stages.specs.Numbering.{NamedFile, IsNamed}
-use Rattle.reading_stages.specs.SizesStage.{Sizes}
-use Rattle.reading_stages.specs.TypedFiles.{TypedFile}
+use Rattle.stage_definitions.specs.Scopes.{Text}
+use Rattle.stage_definitions.specs.Files.{File}
+use Rattle.stage_definitions.specs.FileTrees.{file_of}
+use Rattle.stage_definitions.specs.FileView.{file_in}
+use Rattle.stage_definitions.specs.BlocksStage.{IsPicked}
+use Rattle.stage_definitions.specs.Failures as names
+use Rattle.stage_definitions.specs.Numbering.{NamedFile, IsNamed}
+use Rattle.stage_definitions.specs.SizesStage.{Sizes}
+use Rattle.stage_definitions.specs.TypedFiles.{TypedFile}
 use Rattle.type_derivation.specs.Failures as types
 use Rattle.structure_reader.specs.DataReads.{DataOrSizesFail, IsMeasuredData}
 use Rattle.std.proofs.lemmas.List.{length-map}
-use Rattle.fo_syntax.specs.declared.raw_blocks.RawStructure.{RawStructure}
-use Rattle.reading_stages.specs.Earliest.{IsEarliest}
-use Rattle.reading_stages.specs.NamesStage.{NamesRefuse}
-use Rattle.reading_stages.specs.Files.{Header, TheoryBlock}
-use Rattle.reading_stages.specs.FileTrees.{structure_of}
+use Rattle.grammar.specs.declared.raw_blocks.RawStructure.{RawStructure}
+use Rattle.stage_definitions.specs.Earliest.{IsEarliest}
+use Rattle.stage_definitions.specs.NamesStage.{NamesRefuse}
+use Rattle.stage_definitions.specs.Files.{Header, TheoryBlock}
+use Rattle.stage_definitions.specs.FileTrees.{structure_of}
 use Rattle.base_reader.specs.FileMeanings.{Choice, Picked, Meaning, HasBlocks, HasNames, HasTypes, FileMeans, IsRefused}
 use Rattle.type_derivation.specs.TypedViews.{typed_view, named_theory_view}
 use Rattle.type_derivation.specs.declared.typed.TypedKb.{TypedKb}
-use Rattle.file_bases.specs.FileLaws.{AcceptedCanBeGrounded, AcceptedIsBounded}
-use Rattle.file_bases.specs.FileLaws.{IsBoundedBase}
-use Rattle.reading_stages.specs.FileBases.{base_of_file}
+use Rattle.base_reader.specs.Groundable.{AcceptedCanBeGrounded, AcceptedIsBounded}
+use Rattle.base_reader.specs.Groundable.{IsBoundedBase}
+use Rattle.stage_definitions.specs.FileBases.{base_of_file}
 use Rattle.def_ground.specs.Groundings.{IsGroundTheory}
 use Rattle.narrowed_bases.specs.declared.narrowings.Narrowing.{Narrowing}
 use Rattle.consult_base.specs.Opened.{Opened, opened, IsKnowledgeBase}

@@ -9,22 +9,22 @@ use Rattle.kb_text.specs.declared.fault.K.TheVariants as k
 use Rattle.kb_text.specs.declared.fault.KbFault.{KbFault}
 use Rattle.kb_logic.specs.Bases.{Base}
 use Rattle.kb_logic.specs.KnownAtoms.{KnownAtoms}
-use Rattle.fo_syntax.specs.BlockTrees.{Block}
-use Rattle.fo_syntax.specs.BlockView.{as_structure}
-use Rattle.fo_syntax.specs.FileReads.{KbReads}
-use Rattle.reading_stages.specs.Earliest.{refusal, IsEarliest}
-use Rattle.reading_stages.specs.FileBases.{base_of_file}
-use Rattle.reading_stages.specs.Files.{File}
-use Rattle.reading_stages.specs.FileTrees.{file_of}
-use Rattle.reading_stages.specs.BlocksStage.{block_uses, chosen, header_names, BlocksRefuse}
-use Rattle.reading_stages.specs.NamesStage.{NamesRefuse, declarations_of}
-use Rattle.reading_stages.specs.Numbering.{NamedFile, named_file, vocabulary_name}
-use Rattle.reading_stages.specs.TypesStage.{TypesRefuse}
-use Rattle.reading_stages.specs.TypedFiles.{typed_file}
-use Rattle.reading_stages.specs.DataStage.{StructureRefuses}
-use Rattle.reading_stages.specs.DataEntries.{said_in}
-use Rattle.reading_stages.specs.DataAnswer.{IsDataOf, given_by}
-use Rattle.reading_stages.specs.SizesStage.{SizesRefuse, size_uses}
+use Rattle.grammar.specs.BlockTrees.{Block}
+use Rattle.grammar.specs.BlockView.{as_structure}
+use Rattle.grammar.specs.FileReads.{KbReads}
+use Rattle.stage_definitions.specs.Earliest.{refusal, IsEarliest}
+use Rattle.stage_definitions.specs.FileBases.{base_of_file}
+use Rattle.stage_definitions.specs.Files.{File}
+use Rattle.stage_definitions.specs.FileTrees.{file_of}
+use Rattle.stage_definitions.specs.BlocksStage.{block_uses, chosen, header_names, BlocksRefuse}
+use Rattle.stage_definitions.specs.NamesStage.{NamesRefuse, declarations_of}
+use Rattle.stage_definitions.specs.Numbering.{NamedFile, named_file, vocabulary_name}
+use Rattle.stage_definitions.specs.TypesStage.{TypesRefuse}
+use Rattle.stage_definitions.specs.TypedFiles.{typed_file}
+use Rattle.stage_definitions.specs.DataStage.{StructureRefuses}
+use Rattle.stage_definitions.specs.DataEntries.{said_in}
+use Rattle.stage_definitions.specs.DataAnswer.{IsDataOf, given_by}
+use Rattle.stage_definitions.specs.SizesStage.{SizesRefuse, size_uses}
 use Rattle.base_reader.specs.FileMeanings.{Choice, Picked, Meaning, HasBlocks, HasNames, HasTypes, FileMeans, IsRefused}
 use Rattle.narrowed_bases.specs.Narrowings.{IsHeavy}
 use Rattle.narrowed_bases.proofs.One.{light_or_heavy}

@@ -6,23 +6,23 @@ use Rattle.kb_text.specs.declared.fault.K.TheVariants as k
 use Rattle.kb_text.specs.declared.fault.KbFault.{KbFault}
 use Rattle.kb_logic.specs.Bases.{Base}
 use Rattle.kb_logic.specs.KnownAtoms.{KnownAtoms}
-use Rattle.fo_syntax.specs.BlockTrees as raw
-use Rattle.fo_syntax.specs.BlockTrees.{Block}
-use Rattle.fo_syntax.specs.BlockView.{as_structure}
-use Rattle.fo_syntax.specs.FileReads.{KbReads}
-use Rattle.reading_stages.specs.FileBases.{base_of_file}
-use Rattle.reading_stages.specs.Scopes.{Text}
-use Rattle.reading_stages.specs.Earliest.{IsEarliest, refusal}
-use Rattle.reading_stages.specs.FileTrees.{file_of, structure_of}
-use Rattle.reading_stages.specs.Names.{text_of}
-use Rattle.reading_stages.specs.BlocksStage.{block_uses, BlocksRefuse, IsPicked}
-use Rattle.reading_stages.specs.NamesStage.{NamesRefuse}
-use Rattle.reading_stages.specs.Numbering.{IsNamed, NamedFile}
-use Rattle.reading_stages.specs.TypesStage.{TypesRefuse, IsTyped}
-use Rattle.reading_stages.specs.TypedFiles.{TypedFile}
-use Rattle.reading_stages.specs.DataStage.{StructureRefuses}
-use Rattle.reading_stages.specs.DataAnswer.{IsDataOf}
-use Rattle.reading_stages.specs.SizesStage.{SizesRefuse, size_uses}
+use Rattle.grammar.specs.BlockTrees as raw
+use Rattle.grammar.specs.BlockTrees.{Block}
+use Rattle.grammar.specs.BlockView.{as_structure}
+use Rattle.grammar.specs.FileReads.{KbReads}
+use Rattle.stage_definitions.specs.FileBases.{base_of_file}
+use Rattle.stage_definitions.specs.Scopes.{Text}
+use Rattle.stage_definitions.specs.Earliest.{IsEarliest, refusal}
+use Rattle.stage_definitions.specs.FileTrees.{file_of, structure_of}
+use Rattle.stage_definitions.specs.Names.{text_of}
+use Rattle.stage_definitions.specs.BlocksStage.{block_uses, BlocksRefuse, IsPicked}
+use Rattle.stage_definitions.specs.NamesStage.{NamesRefuse}
+use Rattle.stage_definitions.specs.Numbering.{IsNamed, NamedFile}
+use Rattle.stage_definitions.specs.TypesStage.{TypesRefuse, IsTyped}
+use Rattle.stage_definitions.specs.TypedFiles.{TypedFile}
+use Rattle.stage_definitions.specs.DataStage.{StructureRefuses}
+use Rattle.stage_definitions.specs.DataAnswer.{IsDataOf}
+use Rattle.stage_definitions.specs.SizesStage.{SizesRefuse, size_uses}
 use Rattle.narrowed_bases.specs.Narrowings.{IsHeavy, IsLight}
 
 -- the names of the theory and of the structure that are chosen, where they are named

@@ -1,3 +1,4 @@
 pub mod FileMeanings
-pub mod Readings
+pub mod Groundable
 pub mod Laws
+pub mod Readings

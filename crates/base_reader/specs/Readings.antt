@@ -2,28 +2,28 @@
 use Rattle.std.specs.Prelude.{◌≡◌, ◌⊎◌, List, ℕ, length, Option, ⊤}
 use Rattle.std.specs.Borrow.{Bor}
 use Rattle.kb_logic.specs.KnownAtoms.{KnownAtoms}
-use Rattle.fo_syntax.specs.BlockTrees as raw
-use Rattle.fo_syntax.specs.BlockTrees.{Block}
-use Rattle.fo_syntax.specs.BlockView.{IsKb}
-use Rattle.fo_syntax.specs.BlockView.{structure_view}
-use Rattle.fo_syntax.specs.declared.raw_blocks.RawKb.{RawKb}
-use Rattle.fo_syntax.specs.declared.raw_blocks.RawStructure.{RawStructure}
-use Rattle.fo_syntax.specs.declared.error.KbError.{KbError}
-use Rattle.fo_syntax.specs.declared.error.KbError.TheVariants.{Refused, Memory}
+use Rattle.grammar.specs.BlockTrees as raw
+use Rattle.grammar.specs.BlockTrees.{Block}
+use Rattle.grammar.specs.BlockView.{IsKb}
+use Rattle.grammar.specs.BlockView.{structure_view}
+use Rattle.grammar.specs.declared.raw_blocks.RawKb.{RawKb}
+use Rattle.grammar.specs.declared.raw_blocks.RawStructure.{RawStructure}
+use Rattle.grammar.specs.declared.error.KbError.{KbError}
+use Rattle.grammar.specs.declared.error.KbError.TheVariants.{Refused, Memory}
 use Rattle.block_choice.specs.Choices.{word_given}
-use Rattle.reading_stages.specs.DataAnswer.{IsDataOf}
-use Rattle.reading_stages.specs.Earliest.{IsEarliest}
-use Rattle.reading_stages.specs.FileBases.{base_of_file}
-use Rattle.reading_stages.specs.Files.{File}
-use Rattle.reading_stages.specs.NamesStage.{NamesRefuse}
-use Rattle.reading_stages.specs.Numbering.{IsNamed, NamedFile}
-use Rattle.reading_stages.specs.TypesStage.{TypesRefuse, IsTyped}
-use Rattle.reading_stages.specs.TypedFiles.{TypedFile}
+use Rattle.stage_definitions.specs.DataAnswer.{IsDataOf}
+use Rattle.stage_definitions.specs.Earliest.{IsEarliest}
+use Rattle.stage_definitions.specs.FileBases.{base_of_file}
+use Rattle.stage_definitions.specs.Files.{File}
+use Rattle.stage_definitions.specs.NamesStage.{NamesRefuse}
+use Rattle.stage_definitions.specs.Numbering.{IsNamed, NamedFile}
+use Rattle.stage_definitions.specs.TypesStage.{TypesRefuse, IsTyped}
+use Rattle.stage_definitions.specs.TypedFiles.{TypedFile}
 use Rattle.type_derivation.specs.TypedViews.{typed_view}
 use Rattle.type_derivation.specs.declared.typed.TypedKb.{TypedKb}
 use Rattle.structure_reader.specs.DataReads.{DataOrSizesFail}
 use Rattle.def_ground.specs.Groundings.{IsGroundTheory}
-use Rattle.file_bases.specs.FileLaws.{IsBoundedBase}
+use Rattle.base_reader.specs.Groundable.{IsBoundedBase}
 use Rattle.narrowed_bases.specs.Narrowings.{IsNarrowing, IsLight}
 use Rattle.narrowed_bases.specs.declared.narrowings.Narrowing.{Narrowing}
 use Rattle.consult_base.specs.Opened.{Opened}

@@ -1,32 +1,32 @@
 //! The stages of reading, one after another.
 ghost use Rattle.std.specs.Prelude.{◌≡◌, ◌≤◌, ◌<◌, ◌^◌, Some, length, slice_get, IfErr, IfOk};
-ghost use Rattle.fo_syntax.specs.BlockView.{structure_view};
-ghost use Rattle.reading_stages.specs.FileBases.{base_of_file};
-ghost use Rattle.reading_stages.specs.FileView.{file_in};
-ghost use Rattle.reading_stages.specs.Files.{File};
+ghost use Rattle.grammar.specs.BlockView.{structure_view};
+ghost use Rattle.stage_definitions.specs.FileBases.{base_of_file};
+ghost use Rattle.stage_definitions.specs.FileView.{file_in};
+ghost use Rattle.stage_definitions.specs.Files.{File};
 ghost use Rattle.type_derivation.specs.TypedViews.{typed_view};
 ghost use Rattle.def_ground.specs.Groundings.{IsGroundTheory};
-ghost use Rattle.file_bases.specs.FileLaws.{IsBoundedBase};
+ghost use Rattle.base_reader.specs.Groundable.{IsBoundedBase};
 ghost use Rattle.narrowed_bases.specs.Narrowings.{IsNarrowing, IsLight};
 ghost use Rattle.base_reader.specs.FileMeanings.{first_word as place_of_first_word, FileMeans};
 ghost use Rattle.base_reader.specs.Readings.{choice, meaning_of, AreBlocksOf, AreNarrowedData, DataFail, FailsWith};
 ghost use Rattle.base_reader.specs.Readings.{HasTypedFile, IsOpenedOn, NamesOrTypes, OpenFails};
 
+use crate::{accepted_can_be_grounded, accepted_is_bounded};
 use block_choice::{Picked, pick};
 use consult_base::KnowledgeBase;
-use file_bases::{accepted_can_be_grounded, accepted_is_bounded};
 use fo_reader::read_kb;
-use fo_syntax::{KbError, RawKb, RawStructure};
+use grammar::{KbError, RawKb, RawStructure};
 use kb_logic::Name;
 use kb_names::resolve;
 use kb_text::{K, KbFault};
 use narrowed_bases::{NarrowError, Narrowing, narrow};
 use partial_structures::Partial;
-use reading_stages::files_are_their_blocks;
+use reading_laws::derived_is_well_formed;
+use stage_definitions::files_are_their_blocks;
 use std::alloc::Global;
 use structure_reader::read_data;
 use type_derivation::{TypedKb, derive};
-use typing_laws::derived_is_well_formed;
 
 /// The blocks of the file, and which theory and structure are chosen.
 fn read_blocks(

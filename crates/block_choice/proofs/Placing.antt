@@ -10,15 +10,15 @@ use Rattle.std.proofs.lemmas.List.Folds.{list_any-append}
 use Rattle.std.proofs.Math.Bool.{or-false}
 use Rattle.std.proofs.lemmas.Slice.Eq.{bytes_eq-Decides}
 use Rattle.indexmap.specs.IndexMap.{insert_entry}
-use Rattle.fo_syntax.specs.Trees.{Name}
-use Rattle.fo_syntax.specs.declared.raw_blocks.RawKb.{RawKb}
-use Rattle.fo_syntax.specs.declared.raw_blocks.RawTheory.{RawTheory}
-use Rattle.fo_syntax.specs.declared.raw_blocks.RawStructure.{RawStructure}
-use Rattle.fo_syntax.specs.declared.raw_blocks.RawTerm.{RawTerm}
-use Rattle.reading_stages.specs.FileView.{file_in, header_in, theory_in, term_in}
-use Rattle.reading_stages.specs.Names.{text_of, place_of_name}
-use Rattle.reading_stages.specs.BlocksStage.{is_again, is_called, header_names, headers_of}
-use Rattle.reading_stages.specs.Files.{Header, File, TheoryBlock, TermBlock}
+use Rattle.grammar.specs.Trees.{Name}
+use Rattle.grammar.specs.declared.raw_blocks.RawKb.{RawKb}
+use Rattle.grammar.specs.declared.raw_blocks.RawTheory.{RawTheory}
+use Rattle.grammar.specs.declared.raw_blocks.RawStructure.{RawStructure}
+use Rattle.grammar.specs.declared.raw_blocks.RawTerm.{RawTerm}
+use Rattle.stage_definitions.specs.FileView.{file_in, header_in, theory_in, term_in}
+use Rattle.stage_definitions.specs.Names.{text_of, place_of_name}
+use Rattle.stage_definitions.specs.BlocksStage.{is_again, is_called, header_names, headers_of}
+use Rattle.stage_definitions.specs.Files.{Header, File, TheoryBlock, TermBlock}
 use Rattle.block_choice.specs.declared.first_places.FirstPlaces.{FirstPlaces}
 use Rattle.block_choice.specs.Choices.{is_before, place_kept, AreFirstPlaces}
 

@@ -3,14 +3,14 @@ use Rattle.std.specs.Prelude.{ℕ, ◌≡◌, Bool, false, nat_lt, List, Option,
 use Rattle.std.specs.Map.{lookup}
 use Rattle.std.specs.Borrow.{Bor}
 use Rattle.std.specs.Str.{bytes_eq}
-use Rattle.fo_syntax.specs.Trees.{Name}
-use Rattle.fo_syntax.specs.declared.error.KbError.{KbError}
-use Rattle.fo_syntax.specs.declared.error.KbError.TheVariants.{Refused, Memory}
-use Rattle.reading_stages.specs.Scopes.{Text}
-use Rattle.reading_stages.specs.Names.{text_of, place_of_name}
-use Rattle.reading_stages.specs.Files.{File}
-use Rattle.reading_stages.specs.Earliest.{IsEarliest}
-use Rattle.reading_stages.specs.BlocksStage.{is_again, block_uses, BlocksRefuse}
+use Rattle.grammar.specs.Trees.{Name}
+use Rattle.grammar.specs.declared.error.KbError.{KbError}
+use Rattle.grammar.specs.declared.error.KbError.TheVariants.{Refused, Memory}
+use Rattle.stage_definitions.specs.Scopes.{Text}
+use Rattle.stage_definitions.specs.Names.{text_of, place_of_name}
+use Rattle.stage_definitions.specs.Files.{File}
+use Rattle.stage_definitions.specs.Earliest.{IsEarliest}
+use Rattle.stage_definitions.specs.BlocksStage.{is_again, block_uses, BlocksRefuse}
 use Rattle.block_choice.specs.declared.first_places.FirstPlaces.{FirstPlaces}
 
 -- the word that is given, if one is

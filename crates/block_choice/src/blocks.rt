@@ -1,14 +1,14 @@
 //! Blocks with a header, of each kind.
 ghost use Rattle.std.specs.Prelude.{◌≡◌, fold, map, position, unwrap_or};
-ghost use Rattle.reading_stages.specs.BlocksStage as stage;
-ghost use Rattle.reading_stages.specs.BlocksStage.{block_noted, header_names, is_called, one_of_each};
-ghost use Rattle.reading_stages.specs.FileView.{header_in};
-ghost use Rattle.reading_stages.specs.Files.{Header};
+ghost use Rattle.stage_definitions.specs.BlocksStage as stage;
+ghost use Rattle.stage_definitions.specs.BlocksStage.{block_noted, header_names, is_called, one_of_each};
+ghost use Rattle.stage_definitions.specs.FileView.{header_in};
+ghost use Rattle.stage_definitions.specs.Files.{Header};
 ghost use Rattle.block_choice.specs.Choices.{word_given};
 
-use fo_syntax::{RawHeader, RawStructure, RawTerm, RawTheory};
+use grammar::{RawHeader, RawStructure, RawTerm, RawTheory};
 use kb_text::K;
-use reading_stages::Earliest;
+use stage_definitions::Earliest;
 
 /// A block with a header.
 pub trait Headed {

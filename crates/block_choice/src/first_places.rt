@@ -1,14 +1,14 @@
 //! Where each name is first a block's. With these places at hand, whether a name stands before is one look-up, and a
 //! file of many blocks is checked in one pass over them.
 ghost use Rattle.std.specs.Prelude.{◌≡◌, ◌||◌, ℕ, nat_lt, [], ◌∷◌, ◌++◌, List, OnOk, map};
-ghost use Rattle.fo_syntax.specs.Trees.{Name};
-ghost use Rattle.fo_syntax.specs.View.{name_view};
-ghost use Rattle.reading_stages.specs.BlocksStage as stage;
-ghost use Rattle.reading_stages.specs.BlocksStage.{header_names};
+ghost use Rattle.grammar.specs.Trees.{Name};
+ghost use Rattle.grammar.specs.View.{name_view};
+ghost use Rattle.stage_definitions.specs.BlocksStage as stage;
+ghost use Rattle.stage_definitions.specs.BlocksStage.{header_names};
 ghost use Rattle.block_choice.specs.Choices.{AreFirstPlaces, is_before};
 
 use crate::blocks::Headed;
-use fo_syntax::RawName;
+use grammar::RawName;
 use indexmap::IndexMap;
 use std::alloc::{AllocError, Global};
 

@@ -1,18 +1,18 @@
 //! The stage of blocks: which blocks a file has, and which theory and structure are chosen.
 ghost use Rattle.std.specs.Prelude.{◌≡◌, Some, fold, map, unwrap_or, IfErr, IfOk};
 ghost use Rattle.std.specs.List.{flat_map};
-ghost use Rattle.reading_stages.specs.BlocksStage as stage;
-ghost use Rattle.reading_stages.specs.BlocksStage.{block_noted, block_uses, header_names, headers_of, one_of_each};
-ghost use Rattle.reading_stages.specs.BlocksStage.{uses_of_header, IsPicked};
-ghost use Rattle.reading_stages.specs.FileView.{file_in, header_in, vocabulary_in};
-ghost use Rattle.reading_stages.specs.Names.{text_of};
+ghost use Rattle.stage_definitions.specs.BlocksStage as stage;
+ghost use Rattle.stage_definitions.specs.BlocksStage.{block_noted, block_uses, header_names, headers_of, one_of_each};
+ghost use Rattle.stage_definitions.specs.BlocksStage.{uses_of_header, IsPicked};
+ghost use Rattle.stage_definitions.specs.FileView.{file_in, header_in, vocabulary_in};
+ghost use Rattle.stage_definitions.specs.Names.{text_of};
 ghost use Rattle.block_choice.specs.Choices.{word_given, AreFirstPlaces, FailsWith};
 
 use crate::blocks::{Headed, choose, note_unless_named};
 use crate::first_places::{FirstPlaces, is_again, no_places, note_places};
-use fo_syntax::{KbError, RawHeader, RawKb, RawName, RawVocabulary};
+use grammar::{KbError, RawHeader, RawKb, RawName, RawVocabulary};
 use kb_text::K;
-use reading_stages::Earliest;
+use stage_definitions::Earliest;
 use std::alloc::{AllocError, Global};
 
 /// The numbers of the chosen theory and structure, each among its kind in the order of the text.

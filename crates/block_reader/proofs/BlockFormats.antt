@@ -1,16 +1,16 @@
 -- The parts of vocabularies and structures as formats, and their laws.
 use Rattle.std.proofs.Common.{◌≡◌, ℕ, List, [], ◌∷◌, ◌++◌, Option, Some, ◌⊎◌, inl, inr, refl, subst}
-use Rattle.fo_syntax.specs.declared.terminal.Terminal.{Terminal}
-use Rattle.fo_syntax.specs.declared.terminal.Terminal.TheVariants as t
-use Rattle.fo_syntax.specs.declared.terminal.Outer.TheVariants as o
-use Rattle.fo_syntax.specs.declared.raw_blocks.Separator.{Separator}
-use Rattle.fo_syntax.specs.declared.raw_blocks.Separator.TheVariants as sep
-use Rattle.fo_syntax.specs.Terminals.{Symbol, Tok, tok_at, word}
-use Rattle.fo_syntax.specs.Trees.{Name, name}
-use Rattle.fo_syntax.specs.BlockTrees.{Names, names, Positions, positions, Declaration, type_of, constructed, symbol}
-use Rattle.fo_syntax.specs.BlockTrees.{Vocabulary, vocabulary}
-use Rattle.fo_syntax.specs.BlockSpelling.{put_names, put_positions, from, put_separated, put_declaration}
-use Rattle.fo_syntax.specs.BlockSpelling.{put_vocabulary}
+use Rattle.grammar.specs.declared.terminal.Terminal.{Terminal}
+use Rattle.grammar.specs.declared.terminal.Terminal.TheVariants as t
+use Rattle.grammar.specs.declared.terminal.Outer.TheVariants as o
+use Rattle.grammar.specs.declared.raw_blocks.Separator.{Separator}
+use Rattle.grammar.specs.declared.raw_blocks.Separator.TheVariants as sep
+use Rattle.grammar.specs.Terminals.{Symbol, Tok, tok_at, word}
+use Rattle.grammar.specs.Trees.{Name, name}
+use Rattle.grammar.specs.BlockTrees.{Names, names, Positions, positions, Declaration, type_of, constructed, symbol}
+use Rattle.grammar.specs.BlockTrees.{Vocabulary, vocabulary}
+use Rattle.grammar.specs.BlockSpelling.{put_names, put_positions, from, put_separated, put_declaration}
+use Rattle.grammar.specs.BlockSpelling.{put_vocabulary}
 use Rattle.block_reader.specs.BlockParts.{Anything, EndsDeclaration, EndsArguments}
 use Rattle.token_reader.specs.Signs.{next, No, Is, AWord}
 use Rattle.block_reader.proofs.Formats.{Format, Into, Apart, sign_format, name_format}

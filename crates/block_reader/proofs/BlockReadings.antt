@@ -1,8 +1,8 @@
 -- What is missing, as where a part is stuck.
 use Rattle.std.proofs.Common.{ℕ, List, Option, ◌⊎◌, inl, inr}
-use Rattle.fo_syntax.specs.declared.stops.ReadError.{ReadError}
-use Rattle.fo_syntax.specs.declared.stops.ReadError.TheVariants.{Memory, Stuck}
-use Rattle.fo_syntax.specs.Terminals.{Symbol, Tok}
+use Rattle.grammar.specs.declared.stops.ReadError.{ReadError}
+use Rattle.grammar.specs.declared.stops.ReadError.TheVariants.{Memory, Stuck}
+use Rattle.grammar.specs.Terminals.{Symbol, Tok}
 use Rattle.token_reader.specs.Signs.{next, Absent}
 use Rattle.block_reader.specs.BlockParts.{StuckAt}
 use Rattle.block_reader.proofs.Formats.{Format, Here}

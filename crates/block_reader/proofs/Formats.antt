@@ -1,15 +1,15 @@
 -- How parts are written, how they begin and what may follow them; and what follows for parts that are made of parts.
 use Rattle.std.proofs.Common.{◌≡◌, ℕ, List, [], ◌∷◌, ◌++◌, append-nil, Option, Some, None, ◌⊎◌, inl, inr, refl, sym, ap}
 use Rattle.std.proofs.Common.{ap₂, subst, ◌∙◌}
-use Rattle.fo_syntax.specs.declared.stops.ReadError.{ReadError}
-use Rattle.fo_syntax.specs.declared.stops.ReadError.TheVariants.{Memory, Stuck}
-use Rattle.fo_syntax.specs.declared.terminal.Terminal.{Terminal}
-use Rattle.fo_syntax.specs.Terminals.{Symbol, Tok, tok_at, mark}
-use Rattle.fo_syntax.specs.Trees.{Name, name}
-use Rattle.fo_syntax.specs.Spelling.{put_name}
-use Rattle.fo_syntax.specs.Texts.{SameHead}
-use Rattle.fo_syntax.specs.BlockSpelling.{put_option, put_each, put_sign}
-use Rattle.fo_syntax.specs.BlockFine.{FineEach}
+use Rattle.grammar.specs.declared.stops.ReadError.{ReadError}
+use Rattle.grammar.specs.declared.stops.ReadError.TheVariants.{Memory, Stuck}
+use Rattle.grammar.specs.declared.terminal.Terminal.{Terminal}
+use Rattle.grammar.specs.Terminals.{Symbol, Tok, tok_at, mark}
+use Rattle.grammar.specs.Trees.{Name, name}
+use Rattle.grammar.specs.Spelling.{put_name}
+use Rattle.grammar.specs.Texts.{SameHead}
+use Rattle.grammar.specs.BlockSpelling.{put_option, put_each, put_sign}
+use Rattle.grammar.specs.BlockFine.{FineEach}
 use Rattle.block_reader.specs.BlockParts.{Anything, StuckIn, StuckAt}
 use Rattle.token_reader.specs.Signs.{next, No, AWord}
 

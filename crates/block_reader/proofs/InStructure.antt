@@ -1,21 +1,21 @@
 -- Where the parts of a structure are stuck.
 use Rattle.std.proofs.Common.{◌≡◌, ℕ, List, [], ◌∷◌, ◌++◌, Option, Some, None, inl, inr, refl, sym, ap, subst, ◌∙◌}
-use Rattle.fo_syntax.specs.declared.stops.ReadError.{ReadError}
-use Rattle.fo_syntax.specs.declared.stops.ReadError.TheVariants.{Stuck}
-use Rattle.fo_syntax.specs.declared.terminal.Terminal.TheVariants as t
-use Rattle.fo_syntax.specs.declared.terminal.Outer.{Outer}
-use Rattle.fo_syntax.specs.declared.terminal.Outer.TheVariants as o
-use Rattle.fo_syntax.specs.declared.terminal.Adding.TheVariants.{Minus}
-use Rattle.fo_syntax.specs.declared.terminal.Comparison.TheVariants as cmp
-use Rattle.fo_syntax.specs.Terminals.{Symbol, Tok, tok_at, mark, word, sign, place_of}
-use Rattle.fo_syntax.specs.Trees.{Name, name}
-use Rattle.fo_syntax.specs.Texts.{SameHead}
+use Rattle.grammar.specs.declared.stops.ReadError.{ReadError}
+use Rattle.grammar.specs.declared.stops.ReadError.TheVariants.{Stuck}
+use Rattle.grammar.specs.declared.terminal.Terminal.TheVariants as t
+use Rattle.grammar.specs.declared.terminal.Outer.{Outer}
+use Rattle.grammar.specs.declared.terminal.Outer.TheVariants as o
+use Rattle.grammar.specs.declared.terminal.Adding.TheVariants.{Minus}
+use Rattle.grammar.specs.declared.terminal.Comparison.TheVariants as cmp
+use Rattle.grammar.specs.Terminals.{Symbol, Tok, tok_at, mark, word, sign, place_of}
+use Rattle.grammar.specs.Trees.{Name, name}
+use Rattle.grammar.specs.Texts.{SameHead}
 use Rattle.token_reader.specs.Binders.{Whole}
-use Rattle.fo_syntax.specs.Spelling.{put_name}
+use Rattle.grammar.specs.Spelling.{put_name}
 use Rattle.token_reader.specs.Parts.{NoInteger}
-use Rattle.fo_syntax.specs.BlockTrees.{Header, Element, named, number, below_zero, RowItem, RowItems, Row, Mark, Entry}
-use Rattle.fo_syntax.specs.BlockSpelling.{put_option, put_each, put_behind, put_header, put_element, put_item}
-use Rattle.fo_syntax.specs.BlockSpelling.{put_items, put_to, put_row, put_value, put_entry, put_structure}
+use Rattle.grammar.specs.BlockTrees.{Header, Element, named, number, below_zero, RowItem, RowItems, Row, Mark, Entry}
+use Rattle.grammar.specs.BlockSpelling.{put_option, put_each, put_behind, put_header, put_element, put_item}
+use Rattle.grammar.specs.BlockSpelling.{put_items, put_to, put_row, put_value, put_entry, put_structure}
 use Rattle.block_reader.specs.BlockParts.{Anything, NoTruth, EndsItem, EndsItems, EndsRow, StuckAt}
 use Rattle.token_reader.specs.Signs.{next, No, Is, AWord, Absent}
 use Rattle.block_reader.specs.BlockReads.{put_marked, put_row_tails}

@@ -1,19 +1,19 @@
 -- Where the parts of a vocabulary are stuck.
 use Rattle.std.proofs.Common.{◌≡◌, ℕ, List, [], ◌∷◌, Option, Some, ◌⊎◌, inl, inr, refl, sym, ap, subst, ◌∙◌}
-use Rattle.fo_syntax.specs.declared.stops.ReadError.{ReadError}
-use Rattle.fo_syntax.specs.declared.stops.ReadError.TheVariants.{Memory, Stuck}
-use Rattle.fo_syntax.specs.declared.terminal.Terminal.{Terminal}
-use Rattle.fo_syntax.specs.declared.terminal.Terminal.TheVariants as t
-use Rattle.fo_syntax.specs.declared.terminal.Outer.TheVariants as o
-use Rattle.fo_syntax.specs.declared.raw_blocks.Separator.{Separator}
-use Rattle.fo_syntax.specs.declared.raw_blocks.Separator.TheVariants as sep
-use Rattle.fo_syntax.specs.Terminals.{Symbol, Tok, tok_at, mark, word, sign}
-use Rattle.fo_syntax.specs.Trees.{Name, name}
+use Rattle.grammar.specs.declared.stops.ReadError.{ReadError}
+use Rattle.grammar.specs.declared.stops.ReadError.TheVariants.{Memory, Stuck}
+use Rattle.grammar.specs.declared.terminal.Terminal.{Terminal}
+use Rattle.grammar.specs.declared.terminal.Terminal.TheVariants as t
+use Rattle.grammar.specs.declared.terminal.Outer.TheVariants as o
+use Rattle.grammar.specs.declared.raw_blocks.Separator.{Separator}
+use Rattle.grammar.specs.declared.raw_blocks.Separator.TheVariants as sep
+use Rattle.grammar.specs.Terminals.{Symbol, Tok, tok_at, mark, word, sign}
+use Rattle.grammar.specs.Trees.{Name, name}
 use Rattle.token_reader.specs.Binders.{Whole}
-use Rattle.fo_syntax.specs.Spelling.{put_name}
-use Rattle.fo_syntax.specs.BlockTrees.{names, Positions, Declaration}
-use Rattle.fo_syntax.specs.BlockSpelling.{put_option, put_each, put_behind, put_positions, from, separator}
-use Rattle.fo_syntax.specs.BlockSpelling.{put_separated, put_declaration, put_vocabulary}
+use Rattle.grammar.specs.Spelling.{put_name}
+use Rattle.grammar.specs.BlockTrees.{names, Positions, Declaration}
+use Rattle.grammar.specs.BlockSpelling.{put_option, put_each, put_behind, put_positions, from, separator}
+use Rattle.grammar.specs.BlockSpelling.{put_separated, put_declaration, put_vocabulary}
 use Rattle.block_reader.specs.BlockParts.{Anything, NoSeparator, EndsDeclaration, EndsArguments}
 use Rattle.token_reader.specs.Signs.{next, No, Is, AWord, Absent}
 use Rattle.block_reader.specs.BlockParts.{StuckAt}

@@ -1,8 +1,8 @@
 -- Parts of which all trees are right, made of such parts.
 use Rattle.std.proofs.Common.{◌≡◌, ℕ, List, Option, Some, None, ◌⊎◌, sym, subst}
-use Rattle.fo_syntax.specs.declared.terminal.Terminal.{Terminal}
-use Rattle.fo_syntax.specs.Terminals.{Symbol, Tok, mark}
-use Rattle.fo_syntax.specs.BlockSpelling.{put_each, put_sign}
+use Rattle.grammar.specs.declared.terminal.Terminal.{Terminal}
+use Rattle.grammar.specs.Terminals.{Symbol, Tok, mark}
+use Rattle.grammar.specs.BlockSpelling.{put_each, put_sign}
 use Rattle.token_reader.specs.Signs.{next, No}
 use Rattle.block_reader.proofs.Formats as f
 use Rattle.block_reader.proofs.Formats.{Format, Into, Apart, Here, sign_format, name_format}

@@ -1,15 +1,15 @@
 -- The rows of a structure and their elements as formats, and their laws.
 use Rattle.std.proofs.Common.{◌≡◌, ℕ, List, [], ◌∷◌, ◌++◌, Option, Some, None, ◌⊎◌, inl, inr, refl, sym, ap, ap₂, subst}
 use Rattle.std.proofs.Common.{◌∙◌}
-use Rattle.fo_syntax.specs.declared.terminal.Terminal.TheVariants as t
-use Rattle.fo_syntax.specs.declared.terminal.Outer.TheVariants as o
-use Rattle.fo_syntax.specs.declared.terminal.Adding.TheVariants.{Minus}
-use Rattle.fo_syntax.specs.Terminals.{Symbol, Tok, mark, word, sign}
-use Rattle.fo_syntax.specs.Trees.{name}
-use Rattle.fo_syntax.specs.BlockTrees.{Element, named, number, below_zero, RowItem, item, RowItems, items, Row, plain}
-use Rattle.fo_syntax.specs.BlockTrees.{bracketed, only, Rows, rows}
-use Rattle.fo_syntax.specs.BlockSpelling.{put_option, put_each, put_sign, put_element, put_item, put_items, put_row}
-use Rattle.fo_syntax.specs.BlockSpelling.{put_rows}
+use Rattle.grammar.specs.declared.terminal.Terminal.TheVariants as t
+use Rattle.grammar.specs.declared.terminal.Outer.TheVariants as o
+use Rattle.grammar.specs.declared.terminal.Adding.TheVariants.{Minus}
+use Rattle.grammar.specs.Terminals.{Symbol, Tok, mark, word, sign}
+use Rattle.grammar.specs.Trees.{name}
+use Rattle.grammar.specs.BlockTrees.{Element, named, number, below_zero, RowItem, item, RowItems, items, Row, plain}
+use Rattle.grammar.specs.BlockTrees.{bracketed, only, Rows, rows}
+use Rattle.grammar.specs.BlockSpelling.{put_option, put_each, put_sign, put_element, put_item, put_items, put_row}
+use Rattle.grammar.specs.BlockSpelling.{put_rows}
 use Rattle.block_reader.specs.BlockReads.{put_row_tails}
 use Rattle.block_reader.specs.BlockParts.{Anything, EndsRow, EndsItems, EndsItem}
 use Rattle.token_reader.specs.Signs.{next, No, Is}

@@ -1,14 +1,14 @@
 -- Values, entries and whole structures as formats, and their laws.
 use Rattle.std.proofs.Common.{◌≡◌, ℕ, List, ◌∷◌, Bool, true, Option, Some, None, ◌⊎◌, inl, inr, refl, ap₂, subst}
-use Rattle.fo_syntax.specs.declared.terminal.Terminal.TheVariants as t
-use Rattle.fo_syntax.specs.declared.terminal.Outer.{Outer}
-use Rattle.fo_syntax.specs.declared.terminal.Outer.TheVariants as o
-use Rattle.fo_syntax.specs.declared.terminal.Comparison.TheVariants as cmp
-use Rattle.fo_syntax.specs.Terminals.{Symbol, Tok, mark, word, sign}
-use Rattle.fo_syntax.specs.Trees.{Name}
-use Rattle.fo_syntax.specs.BlockTrees.{Header, header, Element, Rows, Value, truth_value, element_value, table}
-use Rattle.fo_syntax.specs.BlockTrees.{Mark, closed_mark, open_mark, Entry, entry, Structure, structure}
-use Rattle.fo_syntax.specs.BlockSpelling.{put_header, put_value, put_equal, put_entry, put_structure}
+use Rattle.grammar.specs.declared.terminal.Terminal.TheVariants as t
+use Rattle.grammar.specs.declared.terminal.Outer.{Outer}
+use Rattle.grammar.specs.declared.terminal.Outer.TheVariants as o
+use Rattle.grammar.specs.declared.terminal.Comparison.TheVariants as cmp
+use Rattle.grammar.specs.Terminals.{Symbol, Tok, mark, word, sign}
+use Rattle.grammar.specs.Trees.{Name}
+use Rattle.grammar.specs.BlockTrees.{Header, header, Element, Rows, Value, truth_value, element_value, table}
+use Rattle.grammar.specs.BlockTrees.{Mark, closed_mark, open_mark, Entry, entry, Structure, structure}
+use Rattle.grammar.specs.BlockSpelling.{put_header, put_value, put_equal, put_entry, put_structure}
 use Rattle.block_reader.specs.BlockParts.{Anything}
 use Rattle.token_reader.specs.Signs.{Is, AWord}
 use Rattle.block_reader.proofs.Formats.{Format, Apart, sign_format, name_format}

@@ -1,13 +1,13 @@
 -- What a reader of a part of a block returns.
 use Rattle.std.specs.Prelude.{◌≡◌, ℕ, List, ◌++◌, Option, Some, ◌⊎◌, Result, Ok, Err}
 use Rattle.std.specs.Borrow.{Bor}
-use Rattle.fo_syntax.specs.declared.stops.ReadError.{ReadError}
-use Rattle.fo_syntax.specs.declared.stops.ReadError.TheVariants.{Memory, Stuck}
-use Rattle.fo_syntax.specs.declared.terminal.Terminal.TheVariants as t
-use Rattle.fo_syntax.specs.declared.terminal.Outer.TheVariants as o
-use Rattle.fo_syntax.specs.declared.terminal.Item.{Item}
-use Rattle.fo_syntax.specs.Terminals.{Symbol, Tok, mark, toks, place_of}
-use Rattle.fo_syntax.specs.Texts.{SameHead}
+use Rattle.grammar.specs.declared.stops.ReadError.{ReadError}
+use Rattle.grammar.specs.declared.stops.ReadError.TheVariants.{Memory, Stuck}
+use Rattle.grammar.specs.declared.terminal.Terminal.TheVariants as t
+use Rattle.grammar.specs.declared.terminal.Outer.TheVariants as o
+use Rattle.grammar.specs.declared.terminal.Item.{Item}
+use Rattle.grammar.specs.Terminals.{Symbol, Tok, mark, toks, place_of}
+use Rattle.grammar.specs.Texts.{SameHead}
 use Rattle.token_reader.specs.Signs.{next, No, Is, AWord, Absent}
 
 -- anything may come

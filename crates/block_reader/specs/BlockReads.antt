@@ -2,47 +2,47 @@
 use Rattle.std.specs.Prelude.{◌≡◌, ℕ, List, ◌∷◌, map, Option, Some, Result}
 use Rattle.std.specs.Option.{option_map}
 use Rattle.std.specs.Borrow.{Bor}
-use Rattle.fo_syntax.specs.declared.stops.ReadError.{ReadError}
-use Rattle.fo_syntax.specs.declared.terminal.Terminal.{Terminal}
-use Rattle.fo_syntax.specs.declared.terminal.Terminal.TheVariants as t
-use Rattle.fo_syntax.specs.declared.terminal.Outer.{Outer}
-use Rattle.fo_syntax.specs.declared.terminal.Outer.TheVariants as o
-use Rattle.fo_syntax.specs.declared.terminal.Item.{Item}
-use Rattle.fo_syntax.specs.declared.raw.RawName.{RawName}
-use Rattle.fo_syntax.specs.declared.raw_blocks.RawNameTail.{RawNameTail}
-use Rattle.fo_syntax.specs.declared.raw_blocks.RawPositions.{RawPositions}
-use Rattle.fo_syntax.specs.declared.raw_blocks.RawElementTail.{RawElementTail}
-use Rattle.fo_syntax.specs.declared.raw_blocks.RawDeclaration.{RawDeclaration}
-use Rattle.fo_syntax.specs.declared.raw_blocks.RawVocabulary.{RawVocabulary}
-use Rattle.fo_syntax.specs.declared.raw_blocks.RawHeader.{RawHeader}
-use Rattle.fo_syntax.specs.declared.raw_blocks.RawElement.{RawElement}
-use Rattle.fo_syntax.specs.declared.raw_blocks.RawItem.{RawItem}
-use Rattle.fo_syntax.specs.declared.raw_blocks.RawItemTail.{RawItemTail}
-use Rattle.fo_syntax.specs.declared.raw_blocks.RawItems.{RawItems}
-use Rattle.fo_syntax.specs.declared.raw_blocks.RawTo.{RawTo}
-use Rattle.fo_syntax.specs.declared.raw_blocks.RawRow.{RawRow}
-use Rattle.fo_syntax.specs.declared.raw_blocks.RawRows.{RawRows}
-use Rattle.fo_syntax.specs.declared.raw_blocks.RawRowTail.{RawRowTail}
-use Rattle.fo_syntax.specs.declared.raw_blocks.RawTable.{RawTable}
-use Rattle.fo_syntax.specs.declared.raw_blocks.RawMark.{RawMark}
-use Rattle.fo_syntax.specs.declared.raw_blocks.RawValue.{RawValue}
-use Rattle.fo_syntax.specs.declared.raw_blocks.RawValue.TheVariants.{Table}
-use Rattle.fo_syntax.specs.declared.raw_blocks.RawEntry.{RawEntry}
-use Rattle.fo_syntax.specs.declared.raw_blocks.RawStructure.{RawStructure}
-use Rattle.fo_syntax.specs.Terminals.{Symbol, Tok, tok_at, word}
-use Rattle.fo_syntax.specs.Trees.{Name}
+use Rattle.grammar.specs.declared.stops.ReadError.{ReadError}
+use Rattle.grammar.specs.declared.terminal.Terminal.{Terminal}
+use Rattle.grammar.specs.declared.terminal.Terminal.TheVariants as t
+use Rattle.grammar.specs.declared.terminal.Outer.{Outer}
+use Rattle.grammar.specs.declared.terminal.Outer.TheVariants as o
+use Rattle.grammar.specs.declared.terminal.Item.{Item}
+use Rattle.grammar.specs.declared.raw.RawName.{RawName}
+use Rattle.grammar.specs.declared.raw_blocks.RawNameTail.{RawNameTail}
+use Rattle.grammar.specs.declared.raw_blocks.RawPositions.{RawPositions}
+use Rattle.grammar.specs.declared.raw_blocks.RawElementTail.{RawElementTail}
+use Rattle.grammar.specs.declared.raw_blocks.RawDeclaration.{RawDeclaration}
+use Rattle.grammar.specs.declared.raw_blocks.RawVocabulary.{RawVocabulary}
+use Rattle.grammar.specs.declared.raw_blocks.RawHeader.{RawHeader}
+use Rattle.grammar.specs.declared.raw_blocks.RawElement.{RawElement}
+use Rattle.grammar.specs.declared.raw_blocks.RawItem.{RawItem}
+use Rattle.grammar.specs.declared.raw_blocks.RawItemTail.{RawItemTail}
+use Rattle.grammar.specs.declared.raw_blocks.RawItems.{RawItems}
+use Rattle.grammar.specs.declared.raw_blocks.RawTo.{RawTo}
+use Rattle.grammar.specs.declared.raw_blocks.RawRow.{RawRow}
+use Rattle.grammar.specs.declared.raw_blocks.RawRows.{RawRows}
+use Rattle.grammar.specs.declared.raw_blocks.RawRowTail.{RawRowTail}
+use Rattle.grammar.specs.declared.raw_blocks.RawTable.{RawTable}
+use Rattle.grammar.specs.declared.raw_blocks.RawMark.{RawMark}
+use Rattle.grammar.specs.declared.raw_blocks.RawValue.{RawValue}
+use Rattle.grammar.specs.declared.raw_blocks.RawValue.TheVariants.{Table}
+use Rattle.grammar.specs.declared.raw_blocks.RawEntry.{RawEntry}
+use Rattle.grammar.specs.declared.raw_blocks.RawStructure.{RawStructure}
+use Rattle.grammar.specs.Terminals.{Symbol, Tok, tok_at, word}
+use Rattle.grammar.specs.Trees.{Name}
 use Rattle.token_reader.specs.Binders.{Whole}
-use Rattle.fo_syntax.specs.Spelling.{put_name}
-use Rattle.fo_syntax.specs.View.{name_view}
-use Rattle.fo_syntax.specs.BlockTrees.{Row, Value, Mark}
-use Rattle.fo_syntax.specs.BlockSpelling.{put_option, put_each, put_behind, put_sign, put_positions, from}
-use Rattle.fo_syntax.specs.BlockSpelling.{put_separated, put_declaration, put_vocabulary, put_header, put_element}
-use Rattle.fo_syntax.specs.BlockSpelling.{put_item, put_items, put_to, put_row, put_rows, put_value, put_equal}
-use Rattle.fo_syntax.specs.BlockSpelling.{put_entry, put_structure}
-use Rattle.fo_syntax.specs.BlockView.{name_tail_view, positions_view, element_tail_view, declaration_view}
-use Rattle.fo_syntax.specs.BlockView.{vocabulary_view, header_view, element_view, item_view, item_tail_view, items_view}
-use Rattle.fo_syntax.specs.BlockView.{to_view, row_view, row_tail_view, rows_view, mark_view, value_view, entry_view}
-use Rattle.fo_syntax.specs.BlockView.{structure_view}
+use Rattle.grammar.specs.Spelling.{put_name}
+use Rattle.grammar.specs.View.{name_view}
+use Rattle.grammar.specs.BlockTrees.{Row, Value, Mark}
+use Rattle.grammar.specs.BlockSpelling.{put_option, put_each, put_behind, put_sign, put_positions, from}
+use Rattle.grammar.specs.BlockSpelling.{put_separated, put_declaration, put_vocabulary, put_header, put_element}
+use Rattle.grammar.specs.BlockSpelling.{put_item, put_items, put_to, put_row, put_rows, put_value, put_equal}
+use Rattle.grammar.specs.BlockSpelling.{put_entry, put_structure}
+use Rattle.grammar.specs.BlockView.{name_tail_view, positions_view, element_tail_view, declaration_view}
+use Rattle.grammar.specs.BlockView.{vocabulary_view, header_view, element_view, item_view, item_tail_view, items_view}
+use Rattle.grammar.specs.BlockView.{to_view, row_view, row_tail_view, rows_view, mark_view, value_view, entry_view}
+use Rattle.grammar.specs.BlockView.{structure_view}
 use Rattle.block_reader.specs.BlockParts.{PartRead, Anything, EndsDeclaration, EndsArguments}
 use Rattle.token_reader.specs.Signs.{TokenRead, No, Is, itself}
 use Rattle.block_reader.specs.BlockParts.{EndsItem, EndsItems, EndsRow}

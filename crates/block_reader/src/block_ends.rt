@@ -1,11 +1,11 @@
 //! What may come next in a block.
 ghost use Rattle.std.specs.Prelude.{◌≡◌, true, false};
-ghost use Rattle.fo_syntax.specs.Terminals.{toks};
+ghost use Rattle.grammar.specs.Terminals.{toks};
 ghost use Rattle.token_reader.specs.Signs.{next, No, Is};
 ghost use Rattle.block_reader.specs.BlockParts.{EndsAs, EndsDeclaration, EndsArguments, EndsItem, EndsRow, EndsHead};
-ghost use Rattle.fo_syntax.specs.declared.terminal.Terminal.TheVariants as t;
+ghost use Rattle.grammar.specs.declared.terminal.Terminal.TheVariants as t;
 
-use fo_syntax::{Item, Outer, ReadError, Terminal};
+use grammar::{Item, Outer, ReadError, Terminal};
 use token_reader::cursor::{skip, split};
 
 /// Whether a closing brace comes.

@@ -1,24 +1,24 @@
 //! The structure, and how a theory, a structure and a term begin.
 ghost use Rattle.std.specs.Prelude.{◌≡◌, ◌∷◌, ◌≤◌, ◌<◌, length, IfOk, IfSome, IfNone};
 ghost use Rattle.std.specs.Option.{option_map};
-ghost use Rattle.fo_syntax.specs.BlockTrees as tree;
-ghost use Rattle.fo_syntax.specs.View.{name_view};
-ghost use Rattle.fo_syntax.specs.BlockView.{mark_of, mark_view, rows_view};
-ghost use Rattle.fo_syntax.specs.Terminals.{toks};
-ghost use Rattle.fo_syntax.specs.Terminals as terminals;
+ghost use Rattle.grammar.specs.BlockTrees as tree;
+ghost use Rattle.grammar.specs.View.{name_view};
+ghost use Rattle.grammar.specs.BlockView.{mark_of, mark_view, rows_view};
+ghost use Rattle.grammar.specs.Terminals.{toks};
+ghost use Rattle.grammar.specs.Terminals as terminals;
 ghost use Rattle.block_reader.specs.BlockParts.{EndsItem, EndsRow, NoTruth};
 ghost use Rattle.token_reader.specs.Signs.{next, Is};
 ghost use Rattle.block_reader.specs.BlockReads.{HeaderRead, ElementRead, ItemRead, ItemTailsRead, ItemsRead, ArrowRead};
 ghost use Rattle.block_reader.specs.BlockReads.{RowRead, RowTailsRead, RowsRead, ValueRead, EqualRead, EntryRead};
 ghost use Rattle.block_reader.specs.BlockReads.{EntriesRead, StructureRead, table_of};
-ghost use Rattle.fo_syntax.specs.declared.terminal.Terminal.TheVariants as t;
-ghost use Rattle.fo_syntax.specs.declared.terminal.Outer.TheVariants as o;
+ghost use Rattle.grammar.specs.declared.terminal.Terminal.TheVariants as t;
+ghost use Rattle.grammar.specs.declared.terminal.Outer.TheVariants as o;
 ghost use Rattle.token_reader.specs.Parts.{NoInteger};
-ghost use Rattle.fo_syntax.specs.declared.terminal.Adding.TheVariants.{Minus};
-ghost use Rattle.fo_syntax.specs.declared.terminal.Comparison.TheVariants as cmp;
+ghost use Rattle.grammar.specs.declared.terminal.Adding.TheVariants.{Minus};
+ghost use Rattle.grammar.specs.declared.terminal.Comparison.TheVariants as cmp;
 
 use crate::block_ends::{closes, item_ends, row_ends};
-use fo_syntax::{
+use grammar::{
     Adding, Comparison, Item, ItemTails, Outer, RawElement, RawEntry, RawHeader, RawInteger,
     RawItem, RawItemTail, RawItems, RawMark, RawName, RawRange, RawRow, RawRowTail, RawRows,
     RawStructure, RawTable, RawTo, RawValue, ReadError, Terminal,

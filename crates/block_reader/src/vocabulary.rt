@@ -1,23 +1,23 @@
 //! The vocabulary.
 ghost use Rattle.std.specs.Prelude.{◌≡◌, ◌∷◌, ◌≤◌, ◌<◌, length, IfOk, IfSome, IfNone, None};
 ghost use Rattle.std.specs.Option.{option_map};
-ghost use Rattle.fo_syntax.specs.Terminals.{toks};
-ghost use Rattle.fo_syntax.specs.Terminals as terminals;
-ghost use Rattle.fo_syntax.specs.Spelling.{put_name};
-ghost use Rattle.fo_syntax.specs.View.{name_view};
-ghost use Rattle.fo_syntax.specs.BlockTrees as tree;
-ghost use Rattle.fo_syntax.specs.BlockView.{positions_view, declaration_view};
-ghost use Rattle.fo_syntax.specs.BlockSpelling.{separator};
+ghost use Rattle.grammar.specs.Terminals.{toks};
+ghost use Rattle.grammar.specs.Terminals as terminals;
+ghost use Rattle.grammar.specs.Spelling.{put_name};
+ghost use Rattle.grammar.specs.View.{name_view};
+ghost use Rattle.grammar.specs.BlockTrees as tree;
+ghost use Rattle.grammar.specs.BlockView.{positions_view, declaration_view};
+ghost use Rattle.grammar.specs.BlockSpelling.{separator};
 ghost use Rattle.block_reader.specs.BlockParts.{EndsDeclaration, NoSeparator};
 ghost use Rattle.token_reader.specs.Signs.{next, Is, IsSign};
 ghost use Rattle.block_reader.specs.BlockReads.{NameTailsRead, PositionsRead, ArgumentsOf, NamedRead, ElementTailsRead};
 ghost use Rattle.block_reader.specs.BlockReads.{DeclarationRead, DeclarationsRead, VocabularyRead, FromRead};
 ghost use Rattle.block_reader.specs.BlockReads.{placed_name};
-ghost use Rattle.fo_syntax.specs.declared.terminal.Terminal.TheVariants as t;
-ghost use Rattle.fo_syntax.specs.declared.terminal.Outer.TheVariants as o;
+ghost use Rattle.grammar.specs.declared.terminal.Terminal.TheVariants as t;
+ghost use Rattle.grammar.specs.declared.terminal.Outer.TheVariants as o;
 
 use crate::block_ends::{arguments_end, closes, declaration_ends};
-use fo_syntax::{
+use grammar::{
     Item, Outer, RawConstructed, RawDeclaration, RawElementTail, RawIsa, RawName, RawNameTail,
     RawNames, RawPositions, RawResult, RawSymbol, RawType, RawVocabulary, ReadError, Separator,
     Terminal,

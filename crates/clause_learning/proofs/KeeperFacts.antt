@@ -17,7 +17,8 @@ use Rattle.kb_logic.specs.declared.elements.ExtInt.{ExtInt}
 use Rattle.ground_core.specs.declared.parts.GroundTerm.{GroundTerm}
 use Rattle.ground_core.specs.Growing.{HasValue, value_of_term}
 use Rattle.ground_core.specs.Problems.{ProblemState, IsProblem}
-use Rattle.ground_core.specs.Meaning.{HasTermsInRange, IsInRange, Satisfies, RefutesAll, term_value, denotation_of_bound}
+use Rattle.ground_core.specs.Meaning.{HasTermsInRange, IsInRange, Satisfies, RefutesAll, term_value}
+use Rattle.ground_core.specs.Meaning.{denotation_of_bound}
 use Rattle.ground_core.specs.Moments.{moment_of}
 use Rattle.ground_core.specs.Selectors.{AreSelectors}
 use Rattle.ground_core.specs.Solving.{SolveState, Answers, Spends, IsPrefix, IsBudgetOf, IsSublist, HasCoreWithin}

@@ -4,9 +4,9 @@ use Rattle.kb_logic.specs.Bases.{Base}
 use Rattle.kb_logic.specs.Bounds.{TheoryIsBounded}
 use Rattle.kb_logic.specs.KnownAtoms.{KnownAtoms}
 use Rattle.kb_text.specs.declared.fault.KbFault.{KbFault}
-use Rattle.reading_stages.specs.FileBases.{base_of_file, theory_at}
-use Rattle.reading_stages.specs.Scopes.{Text}
-use Rattle.reading_stages.specs.SizesStage.{SizesRefuse, size_uses}
+use Rattle.stage_definitions.specs.FileBases.{base_of_file, theory_at}
+use Rattle.stage_definitions.specs.Scopes.{Text}
+use Rattle.stage_definitions.specs.SizesStage.{SizesRefuse, size_uses}
 use Rattle.type_derivation.specs.TypedViews.{typed_view}
 use Rattle.type_derivation.specs.declared.typed.TypedKb.{TypedKb}
 use Rattle.def_ground.specs.Groundings.{IsGroundTheory, TermsAreBounded}

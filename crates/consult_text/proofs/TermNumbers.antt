@@ -5,8 +5,8 @@ use Rattle.std.specs.Str.{bytes_eq}
 use Rattle.std.proofs.lemmas.List.{length-map}
 use Rattle.kb_logic.specs.declared.syntax.Term.{Term}
 use Rattle.kb_logic.specs.Bases.{NamedTerm}
-use Rattle.reading_stages.specs.TypedFiles.{TypedTermTree}
-use Rattle.reading_stages.specs.FileBases.{named_term}
+use Rattle.stage_definitions.specs.TypedFiles.{TypedTermTree}
+use Rattle.stage_definitions.specs.FileBases.{named_term}
 use Rattle.type_derivation.specs.declared.typed.Named.{Named}
 use Rattle.type_derivation.specs.TypedViews.{named_term_view}
 use Rattle.consult_base.specs.Opened.{Opened, base_of}

@@ -4,7 +4,7 @@ use Rattle.std.proofs.lemmas.List.Elements.{All-nil}
 use Rattle.kb_logic.specs.declared.elements.Elem.{Elem}
 use Rattle.kb_logic.specs.declared.vocabularies.Vocabulary.{Vocabulary}
 use Rattle.kb_logic.specs.Weights.{atom_count}
-use Rattle.reading_stages.specs.SizesStage.{capped}
+use Rattle.stage_definitions.specs.SizesStage.{capped}
 use Rattle.term_values.proofs.Places.{atoms-count}
 use Rattle.found_models.specs.Found.{FoundState}
 use Rattle.found_models.specs.Models.{atoms_of, IsFoundModel, AreFoundModels}

@@ -28,11 +28,11 @@ use found_models::FoundModels;
 use ground_task::Task;
 use indexmap::IndexSet;
 use kb_logic::{LiteralList, Memory};
-use kb_sizes::atoms;
 use kept_answers::KeptAnswers;
 use kept_supports::KeptSupports;
 use lit_core::Lit;
 use session_queries::{is_query, is_undecided, needs_model, opened};
+use size_stage::atoms;
 use std::alloc::Global;
 use std::marker::Model;
 

@@ -6,13 +6,13 @@ use Rattle.std.proofs.lemmas.Bool.{true≢false, and_parts, and_from, eqb-true, 
 use Rattle.std.proofs.lemmas.Bool.{or_right}
 use Rattle.std.proofs.lemmas.List.Folds.{list_any-append}
 use Rattle.kb_logic.specs.declared.elements.Elem.{Elem}
-use Rattle.reading_stages.specs.Elements.{Cell, one, same_element, do_share}
-use Rattle.reading_stages.specs.DataFacts.{Fact, all_share, are_opposed, clashes_with, do_clash, same_tuple}
-use Rattle.reading_stages.specs.DataFacts.{same_value_of}
+use Rattle.stage_definitions.specs.Elements.{Cell, one, same_element, do_share}
+use Rattle.stage_definitions.specs.DataFacts.{Fact, all_share, are_opposed, clashes_with, do_clash, same_tuple}
+use Rattle.stage_definitions.specs.DataFacts.{same_value_of}
 use Rattle.indexmap.specs.IndexSet.{insert_key}
 use Rattle.std.proofs.lemmas.List.Elements.{Contains-push_cases}
-use Rattle.structure_laws.proofs.Members.{here, there}
-use Rattle.structure_laws.proofs.Same.{is_same, itself, same_value_is, value_itself}
+use Rattle.reading_laws.proofs.Members.{here, there}
+use Rattle.reading_laws.proofs.Same.{is_same, itself, same_value_is, value_itself}
 use Rattle.data_clashes.specs.Tables.{agrees, differs, is_atom, is_clear, is_denied, is_wide, value_in, IsKept}
 use Rattle.data_clashes.specs.Tables.{IsKeptBy}
 use Rattle.data_clashes.specs.declared.tables.Table.{Table}

@@ -6,14 +6,14 @@ use Rattle.std.specs.Option.{option_map, option_eq}
 use Rattle.std.specs.Map.{lookup}
 use Rattle.std.proofs.lemmas.List.Folds.{list_any-append}
 use Rattle.kb_logic.specs.declared.elements.Elem.{Elem}
-use Rattle.reading_stages.specs.Elements.{same_element}
-use Rattle.reading_stages.specs.DataFacts.{same_tuple, same_value_of}
-use Rattle.data_notes.specs.Labels.{label_view, tuple_view}
-use Rattle.data_notes.specs.declared.labels.Label.{Label}
-use Rattle.data_notes.specs.contracts.labels.LabelPartialEq.TheImpl.{ghosts as label_equality}
-use Rattle.data_notes.proofs.TupleSets.{label_test, tuple_test}
+use Rattle.stage_definitions.specs.Elements.{same_element}
+use Rattle.stage_definitions.specs.DataFacts.{same_tuple, same_value_of}
+use Rattle.data_refusals.specs.Labels.{label_view, tuple_view}
+use Rattle.data_refusals.specs.declared.labels.Label.{Label}
+use Rattle.data_refusals.specs.contracts.labels.LabelPartialEq.TheImpl.{ghosts as label_equality}
+use Rattle.data_refusals.proofs.TupleSets.{label_test, tuple_test}
 use Rattle.std.proofs.lemmas.Bool.{and_from, eq-eqb}
-use Rattle.structure_laws.proofs.Same.{value_itself}
+use Rattle.reading_laws.proofs.Same.{value_itself}
 use Rattle.data_clashes.proofs.Kept.{tuple_same}
 use Rattle.data_clashes.specs.Tables.{is_atom, is_denied, value_in}
 use Rattle.data_clashes.specs.declared.keys.Key.{Key}

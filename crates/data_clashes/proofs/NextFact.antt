@@ -3,11 +3,11 @@ use Rattle.std.proofs.Common.{◌≡◌, ◌<◌, ◌+◌, ℕ, List, [], ◌∷
 use Rattle.std.proofs.Common.{refl, sym, ap, ◌∙◌}
 use Rattle.std.proofs.lemmas.List.{map-append, take_more}
 use Rattle.kb_text.specs.declared.fault.KbFault.{KbFault}
-use Rattle.reading_stages.specs.DataFacts as stated
-use Rattle.reading_stages.specs.DataStage.{DataUse, fact, uses_of_facts}
-use Rattle.data_entries.specs.EntryViews.{fact_view}
-use Rattle.data_entries.specs.declared.facts.Fact.{Fact}
-use Rattle.data_entries.proofs.Dropped.{front}
+use Rattle.stage_definitions.specs.DataFacts as stated
+use Rattle.stage_definitions.specs.DataStage.{DataUse, fact, uses_of_facts}
+use Rattle.structure_entries.specs.EntryViews.{fact_view}
+use Rattle.structure_entries.specs.declared.facts.Fact.{Fact}
+use Rattle.structure_entries.proofs.Dropped.{front}
 
 abbrev pub views : List Fact → List stated.Fact
 views fs = map fact_view fs

@@ -15,18 +15,18 @@ use Rattle.kb_logic.specs.declared.elements.Elem.{Elem}
 use Rattle.kb_logic.specs.declared.vocabularies.TypeDecl.{TypeDecl}
 use Rattle.kb_logic.specs.declared.vocabularies.Symbol.{Symbol}
 use Rattle.kb_logic.proofs.Has.{Has, flat_map_has, has_left, has_right}
-use Rattle.fo_syntax.specs.BlockTrees as raw
-use Rattle.fo_syntax.specs.Trees.{Name}
-use Rattle.reading_stages.specs.Earliest.{noted_if}
-use Rattle.reading_stages.specs.DataEntries.{Subject, nothing_named, an_element, a_type, a_symbol, WrittenRow, Said}
-use Rattle.reading_stages.specs.DataEntries.{Sense, everything, certainly_true, certainly_false, unread, sense_of}
-use Rattle.reading_stages.specs.DataEntries.{element_of, fits_in, fitting, is_plain_list, is_value_for, value_type}
-use Rattle.reading_stages.specs.DataFacts.{Fact, all_share, are_opposed, cells_read, clashes_with, do_clash, fact_at}
-use Rattle.reading_stages.specs.DataFacts.{fact_of, facts_in, facts_of, gives_whole, same_value_of, signs_of}
-use Rattle.reading_stages.specs.DataStage.{data_noted, fact, uses_of_facts}
-use Rattle.reading_stages.specs.Elements.{Cell}
-use Rattle.data_entries.specs.SaidViews.{said_view}
-use Rattle.data_entries.specs.declared.written.Entry.{Entry}
+use Rattle.grammar.specs.BlockTrees as raw
+use Rattle.grammar.specs.Trees.{Name}
+use Rattle.stage_definitions.specs.Earliest.{noted_if}
+use Rattle.stage_definitions.specs.DataEntries.{Subject, nothing_named, an_element, a_type, a_symbol, WrittenRow, Said}
+use Rattle.stage_definitions.specs.DataEntries.{Sense, everything, certainly_true, certainly_false, unread, sense_of}
+use Rattle.stage_definitions.specs.DataEntries.{element_of, fits_in, fitting, is_plain_list, is_value_for, value_type}
+use Rattle.stage_definitions.specs.DataFacts.{Fact, all_share, are_opposed, cells_read, clashes_with, do_clash, fact_at}
+use Rattle.stage_definitions.specs.DataFacts.{fact_of, facts_in, facts_of, gives_whole, same_value_of, signs_of}
+use Rattle.stage_definitions.specs.DataStage.{data_noted, fact, uses_of_facts}
+use Rattle.stage_definitions.specs.Elements.{Cell}
+use Rattle.structure_entries.specs.SaidViews.{said_view}
+use Rattle.structure_entries.specs.declared.written.Entry.{Entry}
 use Rattle.data_clashes.specs.Signs.{is_opposable, may_say, opposable, says}
 
 -- ---- facts that clash with none may be left out

@@ -6,13 +6,13 @@ use Rattle.std.specs.Int.{int_min, int_max}
 use Rattle.std.specs.List.{list_any}
 use Rattle.std.proofs.lemmas.Int.{ints, clamps}
 use Rattle.std.proofs.lemmas.List.Folds.{list_any-append}
-use Rattle.reading_stages.specs.Elements.{Cell, one, span, as_interval, do_share, size_of}
-use Rattle.reading_stages.specs.DataFacts.{Fact, all_share, are_opposed, clashes_with, do_clash, same_value_of}
-use Rattle.structure_laws.proofs.Same.{value_back}
-use Rattle.data_entries.specs.EntryViews.{elem_view}
-use Rattle.data_entries.specs.declared.elements.Element.{Element}
-use Rattle.element_sets.specs.Sets.{IsSetOf}
-use Rattle.element_sets.specs.declared.sets.ElementSet.{ElementSet}
+use Rattle.stage_definitions.specs.Elements.{Cell, one, span, as_interval, do_share, size_of}
+use Rattle.stage_definitions.specs.DataFacts.{Fact, all_share, are_opposed, clashes_with, do_clash, same_value_of}
+use Rattle.reading_laws.proofs.Same.{value_back}
+use Rattle.structure_entries.specs.EntryViews.{elem_view}
+use Rattle.structure_entries.specs.declared.elements.Element.{Element}
+use Rattle.data_domains.specs.Sets.{IsSetOf}
+use Rattle.data_domains.specs.declared.sets.ElementSet.{ElementSet}
 use Rattle.data_clashes.specs.Opposing.{is_against, only_cell, opposing, opposing_of}
 use Rattle.data_clashes.specs.RunViews.{cells_against}
 use Rattle.data_clashes.specs.SinglesViews.{AreSinglesOf}

@@ -2,13 +2,13 @@
 use Rattle.std.proofs.Common.{◌≡◌, ℕ, ◌==◌, Bool, true, false, not, ◌&&◌, List, [], ◌∷◌, ◌++◌, Option, None, Some}
 use Rattle.std.proofs.Common.{flat_map, is_some, map, option_map, if◌then◌else◌, append_assoc, refl, sym, ap, ◌∙◌}
 use Rattle.std.proofs.lemmas.List.{map-append}
-use Rattle.reading_stages.specs.Elements.{Cell}
-use Rattle.reading_stages.specs.DataFacts.{are_opposed, same_value_of}
+use Rattle.stage_definitions.specs.Elements.{Cell}
+use Rattle.stage_definitions.specs.DataFacts.{are_opposed, same_value_of}
 use Rattle.kb_logic.specs.declared.elements.Elem.{Elem}
-use Rattle.data_entries.specs.EntryViews.{cell_view, elem_view, fact_view}
-use Rattle.data_entries.specs.declared.elements.Cell.{Cell as CellIn}
-use Rattle.data_entries.specs.declared.elements.Element.{Element}
-use Rattle.data_entries.specs.declared.facts.Fact.{Fact}
+use Rattle.structure_entries.specs.EntryViews.{cell_view, elem_view, fact_view}
+use Rattle.structure_entries.specs.declared.elements.Cell.{Cell as CellIn}
+use Rattle.structure_entries.specs.declared.elements.Element.{Element}
+use Rattle.structure_entries.specs.declared.facts.Fact.{Fact}
 use Rattle.data_clashes.specs.Opposing.{only_cell, opposing_of}
 use Rattle.data_clashes.specs.RunViews.{cells_against, run_against}
 use Rattle.data_clashes.specs.declared.runs.Run.{Run}

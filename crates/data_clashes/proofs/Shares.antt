@@ -3,10 +3,10 @@ use Rattle.std.proofs.Common.{◌≡◌, ◌<◌, ◌≤◌, ◌+◌, ◌-◌, �
 use Rattle.std.proofs.Common.{get_or, length, map, refl, sym, ap, ◌∙◌, arith}
 use Rattle.std.proofs.lemmas.Bool.Decides.{nat_tests}
 use Rattle.std.proofs.lemmas.List.{drop_all, drop_more, length-drop, length-map}
-use Rattle.reading_stages.specs.Elements as set
-use Rattle.reading_stages.specs.DataFacts.{all_share}
-use Rattle.data_entries.specs.EntryViews.{cell_view}
-use Rattle.data_entries.specs.declared.elements.Cell.{Cell}
+use Rattle.stage_definitions.specs.Elements as set
+use Rattle.stage_definitions.specs.DataFacts.{all_share}
+use Rattle.structure_entries.specs.EntryViews.{cell_view}
+use Rattle.structure_entries.specs.declared.elements.Cell.{Cell}
 
 module _ (xs ys : List Cell) (i : ℕ) where
   abbrev pub shared : ℕ → Bool

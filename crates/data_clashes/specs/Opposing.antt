@@ -1,7 +1,7 @@
 -- The cells that a fact with one argument and no value must not share with.
 use Rattle.std.specs.Prelude.{ℕ, ◌==◌, Bool, ◌&&◌, List, [], ◌∷◌, None, flat_map, if◌then◌else◌}
-use Rattle.reading_stages.specs.Elements.{Cell}
-use Rattle.reading_stages.specs.DataFacts.{Fact, are_opposed, same_value_of}
+use Rattle.stage_definitions.specs.Elements.{Cell}
+use Rattle.stage_definitions.specs.DataFacts.{Fact, are_opposed, same_value_of}
 
 -- the fact clashes with one of this symbol and sign and without a value, where they share
 abbrev pub is_against : ℕ → Bool → Fact → Bool

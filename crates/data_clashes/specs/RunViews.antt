@@ -1,8 +1,8 @@
 -- The arguments of facts in memory, run by run.
 use Rattle.std.specs.Prelude.{ℕ, ◌==◌, Bool, not, ◌&&◌, List, [], ◌++◌, flat_map, map, if◌then◌else◌}
-use Rattle.reading_stages.specs.Elements.{Cell}
-use Rattle.reading_stages.specs.DataFacts.{are_opposed}
-use Rattle.data_entries.specs.EntryViews.{cell_view}
+use Rattle.stage_definitions.specs.Elements.{Cell}
+use Rattle.stage_definitions.specs.DataFacts.{are_opposed}
+use Rattle.structure_entries.specs.EntryViews.{cell_view}
 use Rattle.data_clashes.specs.declared.runs.Run.{Run}
 use Rattle.data_clashes.specs.declared.runs.Runs.{Runs}
 

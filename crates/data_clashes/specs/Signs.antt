@@ -1,9 +1,9 @@
 -- Symbols of which the rows of a structure may say both that atoms are true and that atoms are false.
 use Rattle.std.specs.Prelude.{◌≡◌, ℕ, ◌==◌, Bool, true, false, not, is_some, ◌&&◌, ◌||◌, List, filter}
 use Rattle.std.specs.List.{list_any}
-use Rattle.reading_stages.specs.DataEntries.{Subject, nothing_named, an_element, a_type, a_symbol, Said, value_type}
-use Rattle.reading_stages.specs.DataEntries.{Sense, everything, certainly_true, certainly_false, unread, sense_of}
-use Rattle.reading_stages.specs.DataFacts.{gives_whole}
+use Rattle.stage_definitions.specs.DataEntries.{Subject, nothing_named, an_element, a_type, a_symbol, Said, value_type}
+use Rattle.stage_definitions.specs.DataEntries.{Sense, everything, certainly_true, certainly_false, unread, sense_of}
+use Rattle.stage_definitions.specs.DataFacts.{gives_whole}
 use Rattle.data_clashes.specs.Tables.{is_wide}
 use Rattle.data_clashes.specs.declared.signs.Signs.{Signs}
 

@@ -1,7 +1,7 @@
 -- Facts in memory by their only arguments.
 use Rattle.std.specs.Prelude.{◌≡◌, ℕ, Bool, true, List}
-use Rattle.reading_stages.specs.DataFacts.{Fact}
-use Rattle.element_sets.specs.Sets.{IsSetOf}
+use Rattle.stage_definitions.specs.DataFacts.{Fact}
+use Rattle.data_domains.specs.Sets.{IsSetOf}
 use Rattle.data_clashes.specs.Opposing.{opposing}
 use Rattle.data_clashes.specs.RunViews.{cells_against}
 use Rattle.data_clashes.specs.declared.singles.Singles.{Singles}

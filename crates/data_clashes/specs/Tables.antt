@@ -3,10 +3,10 @@ use Rattle.std.specs.Prelude.{◌≡◌, ◌⊎◌, ◌==◌, ◌&&◌, not, ℕ
 use Rattle.std.specs.Prelude.{Some, option_map, if◌then◌else◌}
 use Rattle.std.specs.List.{list_any}
 use Rattle.kb_logic.specs.declared.elements.Elem.{Elem}
-use Rattle.reading_stages.specs.Elements.{Cell, one}
-use Rattle.reading_stages.specs.DataFacts.{Fact, same_tuple, same_value_of}
-use Rattle.data_notes.specs.Labels.{label_view, tuple_view}
-use Rattle.data_notes.specs.declared.labels.Label.{Label}
+use Rattle.stage_definitions.specs.Elements.{Cell, one}
+use Rattle.stage_definitions.specs.DataFacts.{Fact, same_tuple, same_value_of}
+use Rattle.data_refusals.specs.Labels.{label_view, tuple_view}
+use Rattle.data_refusals.specs.declared.labels.Label.{Label}
 use Rattle.data_clashes.specs.declared.keys.Key.{Key}
 use Rattle.data_clashes.specs.declared.tables.Table.{Table}
 

@@ -1,12 +1,12 @@
 //! Whether two rows clash.
 ghost use Rattle.std.specs.Prelude.{◌≡◌, map, option_map};
-ghost use Rattle.reading_stages.specs.Elements as set;
-ghost use Rattle.reading_stages.specs.DataFacts as stated;
-ghost use Rattle.data_entries.specs.EntryViews.{cell_view, elem_view, fact_view};
+ghost use Rattle.stage_definitions.specs.Elements as set;
+ghost use Rattle.stage_definitions.specs.DataFacts as stated;
+ghost use Rattle.structure_entries.specs.EntryViews.{cell_view, elem_view, fact_view};
 
-use data_entries::elements::{Cell, Element, is_in, same_element};
-use data_entries::facts::Fact;
-use element_sets::intervals::Interval;
+use data_domains::intervals::Interval;
+use structure_entries::elements::{Cell, Element, is_in, same_element};
+use structure_entries::facts::Fact;
 
 /// Whether some element is in both cells.
 fn do_share(a: Cell<'_>, b: Cell<'_>) -> bool

@@ -2,18 +2,18 @@
 ghost use Rattle.std.specs.Prelude.{◌≡◌, ◌++◌, ◌∷◌, [], List, fold, map, Option, IfOk, OnOk};
 ghost use Rattle.kb_logic.specs.declared.vocabularies.TypeDecl.{TypeDecl as AType};
 ghost use Rattle.kb_text.specs.declared.fault.KbFault.{KbFault as AFault};
-ghost use Rattle.reading_stages.specs.DataEntries as said;
-ghost use Rattle.reading_stages.specs.DataFacts.{facts_in};
-ghost use Rattle.reading_stages.specs.DataStage as stage;
-ghost use Rattle.data_entries.specs.EntryViews.{fact_view};
-ghost use Rattle.data_entries.specs.SaidViews.{said_view};
+ghost use Rattle.stage_definitions.specs.DataEntries as said;
+ghost use Rattle.stage_definitions.specs.DataFacts.{facts_in};
+ghost use Rattle.stage_definitions.specs.DataStage as stage;
+ghost use Rattle.structure_entries.specs.EntryViews.{fact_view};
+ghost use Rattle.structure_entries.specs.SaidViews.{said_view};
 ghost use Rattle.data_clashes.specs.Signs.{opposable, AreSignsOf};
 
 use crate::signs::Signs;
-use data_entries::facts::{Fact, add_facts};
-use data_entries::written::Entry;
 use kb_logic::Memory;
 use std::alloc::Global;
+use structure_entries::facts::{Fact, add_facts};
+use structure_entries::written::Entry;
 
 /// What an entry says of atoms, where it may clash.
 fn add_opposable<'a>(

@@ -1,5 +1,5 @@
 //! Rows as keys of a table.
-use data_notes::labels::Label;
+use data_refusals::labels::Label;
 
 /// A symbol with arguments, and with a value where it is that of a function's atom.
 #[derive(PartialEq, Eq, Hash, Drop)]

@@ -2,22 +2,22 @@
 ghost use Rattle.std.specs.Prelude.{◌≡◌, ◌++◌, ◌∷◌, [], Contains, IfSome, IsTrue, List, None, false, fold, map};
 ghost use Rattle.std.specs.Prelude.{OnOk};
 ghost use Rattle.kb_logic.specs.declared.vocabularies.TypeDecl.{TypeDecl as AType};
-ghost use Rattle.reading_stages.specs.DataEntries as said;
-ghost use Rattle.reading_stages.specs.DataFacts as stated;
-ghost use Rattle.reading_stages.specs.DataStage as stage;
-ghost use Rattle.data_entries.specs.EntryViews.{cell_view, fact_view};
+ghost use Rattle.stage_definitions.specs.DataEntries as said;
+ghost use Rattle.stage_definitions.specs.DataFacts as stated;
+ghost use Rattle.stage_definitions.specs.DataStage as stage;
+ghost use Rattle.structure_entries.specs.EntryViews.{cell_view, fact_view};
 ghost use Rattle.data_clashes.specs.SinglesViews.{AreSinglesOf};
 ghost use Rattle.data_clashes.specs.Tables.{IsKept};
 
 use crate::clashes::clashes_with;
 use crate::singles::Singles;
 use crate::tables::Table;
-use data_entries::elements::Cell;
-use data_entries::facts::Fact;
 use kb_logic::Memory;
 use kb_text::K;
-use reading_stages::Earliest;
+use stage_definitions::Earliest;
 use std::alloc::Global;
+use structure_entries::elements::Cell;
+use structure_entries::facts::Fact;
 
 /// Notes a fact that clashes with one of these; where it would not count, none is sought.
 fn note_fact(earliest: &mut Earliest, before: &[Fact<'_>], fact: &Fact<'_>)

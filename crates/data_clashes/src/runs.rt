@@ -3,19 +3,19 @@
 //! The rows of an entry are one run, so what stands against a row is found run by run.
 ghost use Rattle.std.specs.Prelude.{◌≡◌, ◌++◌, ◌&&◌, ◌==◌, ◌∷◌, [], ℕ, Bool, true, is_some, flat_map, map, not, IfOk};
 ghost use Rattle.std.specs.Prelude.{OnOk, if◌then◌else◌};
-ghost use Rattle.reading_stages.specs.DataFacts as stated;
-ghost use Rattle.data_entries.specs.EntryViews.{cell_view, fact_view};
-ghost use Rattle.element_sets.specs.Sets.{IsSetOf};
+ghost use Rattle.stage_definitions.specs.DataFacts as stated;
+ghost use Rattle.structure_entries.specs.EntryViews.{cell_view, fact_view};
+ghost use Rattle.data_domains.specs.Sets.{IsSetOf};
 ghost use Rattle.data_clashes.specs.Opposing.{opposing_of};
 ghost use Rattle.data_clashes.specs.RunViews.{cells_against, run_against};
 
 use crate::clashes::are_opposed;
-use data_entries::elements::Cell;
-use data_entries::facts::Fact;
-use element_sets::sets::ElementSet;
+use data_domains::sets::ElementSet;
 use kb_logic::Memory;
 use std::alloc::Global;
 use std::mem;
+use structure_entries::elements::Cell;
+use structure_entries::facts::Fact;
 
 /// The arguments of some facts of a symbol with this sign, each with a value, or each without.
 #[derive(Drop)]

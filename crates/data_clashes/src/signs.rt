@@ -2,19 +2,19 @@
 //!
 //! A predicate whose rows all have one sign is left out of the search for rows that clash.
 ghost use Rattle.std.specs.Prelude.{◌≡◌, ◌==◌, ◌&&◌, ◌||◌, ℕ, List, [], true, false, is_some, map, IfOk, OnOk};
-ghost use Rattle.reading_stages.specs.DataEntries as said;
-ghost use Rattle.reading_stages.specs.DataFacts as stated;
-ghost use Rattle.data_entries.specs.EntryViews.{sense_view, subject_view};
-ghost use Rattle.data_entries.specs.SaidViews.{said_view};
+ghost use Rattle.stage_definitions.specs.DataEntries as said;
+ghost use Rattle.stage_definitions.specs.DataFacts as stated;
+ghost use Rattle.structure_entries.specs.EntryViews.{sense_view, subject_view};
+ghost use Rattle.structure_entries.specs.SaidViews.{said_view};
 ghost use Rattle.data_clashes.specs.Signs.{is_opposable, may_say, says, AreSignsOf};
 ghost use Rattle.data_clashes.specs.Tables.{is_wide};
 
-use data_entries::senses::{Sense, sense_of};
-use data_entries::subjects::Subject;
-use data_entries::written::Entry;
 use indexmap::IndexSet;
 use kb_logic::Memory;
 use std::alloc::Global;
+use structure_entries::senses::{Sense, sense_of};
+use structure_entries::subjects::Subject;
+use structure_entries::written::Entry;
 
 /// The symbols of which entries say that atoms are true, and those of which they say that atoms are false.
 #[derive(Drop)]

@@ -1,16 +1,16 @@
 //! Whether a fact with one argument and no value clashes with one before it.
 ghost use Rattle.std.specs.Prelude.{◌≡◌, ◌++◌, ◌∷◌, [], true, None, List, IfOk, OnOk, map};
-ghost use Rattle.reading_stages.specs.DataFacts as stated;
-ghost use Rattle.data_entries.specs.EntryViews.{cell_view, fact_view};
+ghost use Rattle.stage_definitions.specs.DataFacts as stated;
+ghost use Rattle.structure_entries.specs.EntryViews.{cell_view, fact_view};
 ghost use Rattle.data_clashes.specs.SinglesViews.{AreSinglesOf};
 
 use crate::runs::Runs;
-use data_entries::elements::Cell;
-use data_entries::facts::Fact;
-use element_sets::sets::ElementSet;
+use data_domains::sets::ElementSet;
 use indexmap::IndexSet;
 use kb_logic::Memory;
 use std::alloc::Global;
+use structure_entries::elements::Cell;
+use structure_entries::facts::Fact;
 
 /// The arguments of facts, and what stands against facts of this symbol and sign and without a value, if that is known:
 /// the rows of an entry have the same.

@@ -2,19 +2,19 @@
 ghost use Rattle.std.specs.Prelude.{◌≡◌, ℕ, None, Option, Some, List, IsTrue, IfSome, false, map, IfOk, OnOk};
 ghost use Rattle.std.specs.Option.{option_map};
 ghost use Rattle.kb_logic.specs.declared.elements.Elem.{Elem as AnElem};
-ghost use Rattle.reading_stages.specs.Elements.{one, same_element};
-ghost use Rattle.reading_stages.specs.DataFacts as stated;
-ghost use Rattle.data_entries.specs.EntryViews.{cell_view, elem_view, fact_view};
-ghost use Rattle.data_notes.specs.Labels.{label_view, tuple_view};
+ghost use Rattle.stage_definitions.specs.Elements.{one, same_element};
+ghost use Rattle.stage_definitions.specs.DataFacts as stated;
+ghost use Rattle.structure_entries.specs.EntryViews.{cell_view, elem_view, fact_view};
+ghost use Rattle.data_refusals.specs.Labels.{label_view, tuple_view};
 ghost use Rattle.data_clashes.specs.Tables.{is_clear, is_denied, is_wide, value_in, IsKept};
 
 use crate::keys::Key;
-use data_entries::elements::{Cell, Element};
-use data_entries::facts::Fact;
-use data_notes::labels::{Label, label_of};
+use data_refusals::labels::{Label, label_of};
 use indexmap::{IndexMap, IndexSet};
 use kb_logic::Memory;
 use std::alloc::Global;
+use structure_entries::elements::{Cell, Element};
+use structure_entries::facts::Fact;
 
 /// The values of rows that hold by the rows, the atoms that are false, and the symbols whose facts are compared one by
 /// one, since a range is among them or one was not clear.

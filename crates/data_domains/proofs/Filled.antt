@@ -1,6 +1,7 @@
 -- Types that are given cells one entry after another.
 use Rattle.std.proofs.Common.{◌≡◌, ◌==◌, ◌≤◌, ◌<◌, ◌+◌, ℕ, drop, Bool, true, false, not, ◌&&◌, List, [], ◌∷◌, ◌++◌}
-use Rattle.std.proofs.Common.{Option, None, Some, length, map, filter, fold, slice_get, get_or, if◌then◌else◌, refl, sym, ap}
+use Rattle.std.proofs.Common.{Option, None, Some, length, map, filter, fold, slice_get, get_or, if◌then◌else◌, refl}
+use Rattle.std.proofs.Common.{sym, ap}
 use Rattle.std.proofs.Common.{◌∙◌, subst, append_assoc, ◌⊎◌, inl, inr}
 use Rattle.std.specs.Prelude.{slice_set}
 use Rattle.std.specs.List.{filter_map}
@@ -10,14 +11,14 @@ use Rattle.std.proofs.lemmas.List.{append-nil, get_or-set_other, length-set}
 use Rattle.std.proofs.lemmas.Option.{get_or_from_slice_get, slice_get-get_or, slice_get_past, slice_get_within}
 use Rattle.std.proofs.lemmas.List.Elements.{filter_map-append, filter-append}
 use Rattle.kb_logic.specs.declared.vocabularies.TypeDecl.{TypeDecl}
-use Rattle.reading_stages.specs.Elements.{Cell, listed, members, with_element}
-use Rattle.reading_stages.specs.DataEntries.{Said, Spot, Subject}
-use Rattle.data_entries.specs.declared.rows.Row.{Row}
-use Rattle.data_entries.specs.EntryViews.{row_view, spots_in}
-use Rattle.data_entries.proofs.Dropped.{front}
-use Rattle.data_entries.proofs.Spotted.{spots_next}
-use Rattle.reading_stages.specs.DataDomains.{cells_given, is_list_of, occurs_at}
-use Rattle.element_sets.proofs.Gathering.{listed_more}
+use Rattle.stage_definitions.specs.Elements.{Cell, listed, members, with_element}
+use Rattle.stage_definitions.specs.DataEntries.{Said, Spot, Subject}
+use Rattle.structure_entries.specs.declared.rows.Row.{Row}
+use Rattle.structure_entries.specs.EntryViews.{row_view, spots_in}
+use Rattle.structure_entries.proofs.Dropped.{front}
+use Rattle.structure_entries.proofs.Spotted.{spots_next}
+use Rattle.stage_definitions.specs.DataDomains.{cells_given, is_list_of, occurs_at}
+use Rattle.data_domains.proofs.Gathering.{listed_more}
 use Rattle.data_domains.specs.Shares.{is_taken, listed_share, occurring_share, IsGiven, StandsFor, Takes}
 use Rattle.data_domains.specs.declared.traits.Traits.{Traits}
 use Rattle.data_domains.specs.declared.types.TypeData.{TypeData}

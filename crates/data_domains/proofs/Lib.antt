@@ -1,3 +1,11 @@
+pub mod Aheads
+pub mod CellRuns
 pub mod Filled
+pub mod Gathering
+pub mod HullFacts
+pub mod Keys
 pub mod Looked
+pub mod RunFacts
+pub mod Sorting
 pub mod Wholes
+pub mod WordSets

@@ -5,14 +5,14 @@ use Rattle.std.proofs.Common.{arith, subst, ◌⊎◌, inl, inr}
 use Rattle.std.specs.Option.{option_map}
 use Rattle.std.proofs.lemmas.Option.{slice_get-map, slice_get-get_or}
 use Rattle.kb_logic.specs.declared.vocabularies.TypeDecl.{TypeDecl}
-use Rattle.reading_stages.specs.Below.{type_above, type_parents}
-use Rattle.reading_stages.specs.Kinship.{is_under_a_number, top_of}
-use Rattle.reading_stages.specs.DataEntries.{Said}
-use Rattle.reading_stages.specs.DataDomains.{cells_if, cells_of, has_what_occurs, is_constructed}
-use Rattle.reading_stages.specs.DataDomains.{is_under_nat}
-use Rattle.reading_stages.specs.DataStage.{type_is}
-use Rattle.reading_stages.proofs.ChainEnds.{stays}
-use Rattle.element_sets.specs.Sets.{IsSetOf}
+use Rattle.stage_definitions.specs.Below.{type_above, type_parents}
+use Rattle.stage_definitions.specs.Kinship.{is_under_a_number, top_of}
+use Rattle.stage_definitions.specs.DataEntries.{Said}
+use Rattle.stage_definitions.specs.DataDomains.{cells_if, cells_of, has_what_occurs, is_constructed}
+use Rattle.stage_definitions.specs.DataDomains.{is_under_nat}
+use Rattle.stage_definitions.specs.DataStage.{type_is}
+use Rattle.stage_definitions.proofs.ChainEnds.{stays}
+use Rattle.data_domains.specs.Sets.{IsSetOf}
 use Rattle.data_domains.specs.Traits.{AreTraitsOf}
 use Rattle.data_domains.specs.Lookups.{AreTraitsAt}
 use Rattle.data_domains.specs.TypeSets.{AreTypesOf}

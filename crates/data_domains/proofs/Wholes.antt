@@ -9,14 +9,14 @@ use Rattle.std.proofs.lemmas.List.{append-nil}
 use Rattle.std.proofs.lemmas.Option.{slice_get_within}
 use Rattle.std.proofs.lemmas.List.Elements.{filter_map-append, filter-append}
 use Rattle.kb_logic.specs.declared.vocabularies.TypeDecl.{TypeDecl}
-use Rattle.reading_stages.specs.Below.{type_above}
-use Rattle.reading_stages.specs.Elements.{Cell, listed}
-use Rattle.reading_stages.specs.DataEntries.{Said, Spot, spots_of}
-use Rattle.reading_stages.specs.DataDomains.{cells_by, cells_given, is_constructed, is_list_of, is_listed}
-use Rattle.reading_stages.specs.DataDomains.{listed_cells, made_cells, occurring_cells, occurs_at}
-use Rattle.data_entries.specs.EntryViews.{cell_view}
-use Rattle.element_sets.specs.Runs.{is_hollow}
-use Rattle.element_sets.specs.Sets.{runs_in, IsGathered, IsSetOf}
+use Rattle.stage_definitions.specs.Below.{type_above}
+use Rattle.stage_definitions.specs.Elements.{Cell, listed}
+use Rattle.stage_definitions.specs.DataEntries.{Said, Spot, spots_of}
+use Rattle.stage_definitions.specs.DataDomains.{cells_by, cells_given, is_constructed, is_list_of, is_listed}
+use Rattle.stage_definitions.specs.DataDomains.{listed_cells, made_cells, occurring_cells, occurs_at}
+use Rattle.structure_entries.specs.EntryViews.{cell_view}
+use Rattle.data_domains.specs.Runs.{is_hollow}
+use Rattle.data_domains.specs.Sets.{runs_in, IsGathered, IsSetOf}
 use Rattle.data_domains.specs.Shares.{share, IsDeclaredSo, IsGiven, IsSettled, StandsFor, Takes}
 use Rattle.data_domains.specs.Traits.{AreTraitsOf}
 use Rattle.data_domains.specs.TypeSets.{AreTypesOf}

@@ -1,10 +1,10 @@
 -- The traits of the type with a number, where there is one.
 use Rattle.std.specs.Prelude.{◌≡◌, ℕ, List, slice_get}
 use Rattle.kb_logic.specs.declared.vocabularies.TypeDecl.{TypeDecl}
-use Rattle.reading_stages.specs.Kinship.{is_number_type}
-use Rattle.reading_stages.specs.DataEntries.{Said}
-use Rattle.reading_stages.specs.DataDomains.{has_what_occurs, is_constructed, is_natural_type, parent_of_type}
-use Rattle.reading_stages.specs.DataStage.{type_is}
+use Rattle.stage_definitions.specs.Kinship.{is_number_type}
+use Rattle.stage_definitions.specs.DataEntries.{Said}
+use Rattle.stage_definitions.specs.DataDomains.{has_what_occurs, is_constructed, is_natural_type, parent_of_type}
+use Rattle.stage_definitions.specs.DataStage.{type_is}
 use Rattle.data_domains.specs.declared.traits.Traits.{Traits}
 
 pub record AreTraitsAt (types : List TypeDecl) (es : List Said) (t : ℕ) (x : Traits) : Type 0 where

@@ -2,11 +2,11 @@
 use Rattle.std.specs.Prelude.{◌≡◌, ℕ, Bool, not, ◌&&◌, List, [], ◌++◌, Some, map, filter, slice_get, if◌then◌else◌}
 use Rattle.std.specs.List.{filter_map}
 use Rattle.kb_logic.specs.declared.vocabularies.TypeDecl.{TypeDecl}
-use Rattle.reading_stages.specs.Elements.{Cell, listed}
-use Rattle.reading_stages.specs.DataEntries.{Said, Spot, spots_of}
-use Rattle.reading_stages.specs.DataDomains.{cells_given, is_list_of, made_cells, occurs_at}
-use Rattle.data_entries.specs.EntryViews.{cell_view}
-use Rattle.element_sets.specs.Sets.{IsGathered, IsSetOf}
+use Rattle.stage_definitions.specs.Elements.{Cell, listed}
+use Rattle.stage_definitions.specs.DataEntries.{Said, Spot, spots_of}
+use Rattle.stage_definitions.specs.DataDomains.{cells_given, is_list_of, made_cells, occurs_at}
+use Rattle.structure_entries.specs.EntryViews.{cell_view}
+use Rattle.data_domains.specs.Sets.{IsGathered, IsSetOf}
 use Rattle.data_domains.specs.Traits.{AreTraitsOf}
 use Rattle.data_domains.specs.declared.traits.Traits.{Traits}
 use Rattle.data_domains.specs.declared.types.TypeData.{TypeData}

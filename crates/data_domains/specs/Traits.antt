@@ -1,10 +1,10 @@
 -- What is known of a type beside a structure.
 use Rattle.std.specs.Prelude.{◌≡◌, ℕ, List}
 use Rattle.kb_logic.specs.declared.vocabularies.TypeDecl.{TypeDecl}
-use Rattle.reading_stages.specs.Kinship.{is_number_type}
-use Rattle.reading_stages.specs.DataEntries.{Said}
-use Rattle.reading_stages.specs.DataDomains.{has_what_occurs, is_constructed, is_listed, is_natural_type}
-use Rattle.reading_stages.specs.DataDomains.{parent_of_type}
+use Rattle.stage_definitions.specs.Kinship.{is_number_type}
+use Rattle.stage_definitions.specs.DataEntries.{Said}
+use Rattle.stage_definitions.specs.DataDomains.{has_what_occurs, is_constructed, is_listed, is_natural_type}
+use Rattle.stage_definitions.specs.DataDomains.{parent_of_type}
 use Rattle.data_domains.specs.declared.traits.Traits.{Traits}
 
 -- these are the traits of the type with this number, which is declared so

@@ -1,11 +1,11 @@
 -- The elements of all types in memory.
 use Rattle.std.specs.Prelude.{◌≡◌, ℕ, List, length, map, slice_get, Some}
 use Rattle.kb_logic.specs.declared.vocabularies.TypeDecl.{TypeDecl}
-use Rattle.reading_stages.specs.Elements.{listed}
-use Rattle.reading_stages.specs.DataEntries.{Said}
-use Rattle.reading_stages.specs.DataDomains.{cells_by}
-use Rattle.data_entries.specs.EntryViews.{cell_view}
-use Rattle.element_sets.specs.Sets.{IsSetOf}
+use Rattle.stage_definitions.specs.Elements.{listed}
+use Rattle.stage_definitions.specs.DataEntries.{Said}
+use Rattle.stage_definitions.specs.DataDomains.{cells_by}
+use Rattle.structure_entries.specs.EntryViews.{cell_view}
+use Rattle.data_domains.specs.Sets.{IsSetOf}
 use Rattle.data_domains.specs.Traits.{AreTraitsOf}
 use Rattle.data_domains.specs.declared.types.TypeData.{TypeData}
 

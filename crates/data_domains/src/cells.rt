@@ -1,15 +1,15 @@
 //! The cells of entries and of declarations.
 ghost use Rattle.std.specs.Prelude.{◌≡◌, ◌++◌, map, OnOk};
 ghost use Rattle.std.specs.List.{filter_map};
-ghost use Rattle.reading_stages.specs.DataDomains as domain;
-ghost use Rattle.data_entries.specs.EntryViews.{cell_view, spot_view};
-ghost use Rattle.data_entries.specs.SaidViews.{said_view};
+ghost use Rattle.stage_definitions.specs.DataDomains as domain;
+ghost use Rattle.structure_entries.specs.EntryViews.{cell_view, spot_view};
+ghost use Rattle.structure_entries.specs.SaidViews.{said_view};
 
-use data_entries::elements::{Cell, Element};
-use data_entries::spots::{Spot, set_spots};
-use data_entries::written::Entry;
 use kb_logic::{Memory, TypeDecl};
 use std::alloc::Global;
+use structure_entries::elements::{Cell, Element};
+use structure_entries::spots::{Spot, set_spots};
+use structure_entries::written::Entry;
 
 /// A constructed type's elements.
 pub fn add_made<'a>(decl: &'a TypeDecl, cells: &mut Vec<Cell<'a>>) -> Result<(), Memory>

@@ -1,22 +1,22 @@
 //! The cells of all types, in one pass over the entries.
 ghost use Rattle.std.specs.Prelude.{◌≡◌, ◌++◌, ◌∷◌, [], ℕ, List, flat_map, get_or, length, map, OnOk};
-ghost use Rattle.reading_stages.specs.Elements as set;
-ghost use Rattle.reading_stages.specs.DataEntries as said;
-ghost use Rattle.reading_stages.specs.DataDomains as domain;
+ghost use Rattle.stage_definitions.specs.Elements as set;
+ghost use Rattle.stage_definitions.specs.DataEntries as said;
+ghost use Rattle.stage_definitions.specs.DataDomains as domain;
 ghost use Rattle.std.specs.List.{filter_map};
-ghost use Rattle.data_entries.specs.EntryViews.{spot_view};
-ghost use Rattle.data_entries.specs.SaidViews.{said_view};
+ghost use Rattle.structure_entries.specs.EntryViews.{spot_view};
+ghost use Rattle.structure_entries.specs.SaidViews.{said_view};
 ghost use Rattle.data_domains.specs.Shares.{listed_share, occurring_share, share, IsGiven, Takes};
 ghost use Rattle.data_domains.specs.declared.traits.Traits.{Traits as TheTraits};
 
 use crate::traits::list_type;
 use crate::types::TypeData;
-use data_entries::elements::{Cell, Element};
-use data_entries::spots::{Spot, set_spots};
-use data_entries::written::Entry;
 use kb_logic::{Memory, TypeDecl};
-use reading_stages::parent_of;
+use stage_definitions::parent_of;
 use std::alloc::Global;
+use structure_entries::elements::{Cell, Element};
+use structure_entries::spots::{Spot, set_spots};
+use structure_entries::written::Entry;
 
 /// The type at a position of which something is written: the list of a type is a table of its parent.
 fn position_of(types: &[TypeDecl], spot: &Spot<'_>) -> Option<usize>

@@ -1,9 +1,9 @@
 //! Which types have natural numbers alone.
 ghost use Rattle.std.specs.Prelude.{◌≡◌};
-ghost use Rattle.reading_stages.specs.DataDomains as domain;
+ghost use Rattle.stage_definitions.specs.DataDomains as domain;
 
 use kb_logic::{Parent, TypeDecl};
-use reading_stages::top_of;
+use stage_definitions::top_of;
 
 fn is_nat(parent: Parent) -> bool
     ensures { result ≡ domain.is_nat parent }

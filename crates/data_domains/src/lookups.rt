@@ -2,18 +2,18 @@
 ghost use Rattle.std.specs.Prelude.{◌≡◌, List, slice_get};
 ghost use Rattle.std.specs.Option.{option_copied};
 ghost use Rattle.kb_logic.specs.declared.vocabularies.TypeDecl.{TypeDecl as AType};
-ghost use Rattle.reading_stages.specs.Elements as set;
-ghost use Rattle.reading_stages.specs.DataEntries as said;
-ghost use Rattle.reading_stages.specs.DataDomains as domain;
-ghost use Rattle.reading_stages.specs.SizesStage.{capped};
-ghost use Rattle.data_entries.specs.EntryViews.{cell_view, elem_view};
+ghost use Rattle.stage_definitions.specs.Elements as set;
+ghost use Rattle.stage_definitions.specs.DataEntries as said;
+ghost use Rattle.stage_definitions.specs.DataDomains as domain;
+ghost use Rattle.stage_definitions.specs.SizesStage.{capped};
+ghost use Rattle.structure_entries.specs.EntryViews.{cell_view, elem_view};
 ghost use Rattle.data_domains.specs.Lookups.{AreTraitsAt};
 ghost use Rattle.data_domains.specs.TypeSets.{AreTypesOf};
 
+use crate::intervals::Interval;
 use crate::traits::Traits;
 use crate::types::TypeData;
-use data_entries::elements::{Cell, Element};
-use element_sets::intervals::Interval;
+use structure_entries::elements::{Cell, Element};
 
 /// The traits of a number that no type has.
 const BLANK: Traits = Traits {

@@ -1,12 +1,12 @@
 //! What is known of a type beside a structure.
 ghost use Rattle.std.specs.Prelude.{◌≡◌, ◌==◌, ◌&&◌, ◌<◌, ◌||◌, ℕ, false, get_or, length, map, IfOk};
-ghost use Rattle.reading_stages.specs.DataDomains as domain;
-ghost use Rattle.data_entries.specs.SaidViews.{said_view};
+ghost use Rattle.stage_definitions.specs.DataDomains as domain;
+ghost use Rattle.structure_entries.specs.SaidViews.{said_view};
 
-use data_entries::subjects::Subject;
-use data_entries::written::Entry;
 use kb_logic::Memory;
 use std::alloc::Global;
+use structure_entries::subjects::Subject;
+use structure_entries::written::Entry;
 
 /// Whether the type's elements are declared with it, whether it has a list, whether it has the elements that occur,
 /// whether it has integers alone, and none below 0, and the type above it.

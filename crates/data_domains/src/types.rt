@@ -4,13 +4,13 @@ ghost use Rattle.std.specs.Prelude.{IfOk, OnOk};
 ghost use Rattle.std.specs.List.{list_any};
 ghost use Rattle.std.specs.Prelude.{if◌then◌else◌};
 ghost use Rattle.kb_logic.specs.declared.vocabularies.TypeDecl.{TypeDecl as AType};
-ghost use Rattle.reading_stages.specs.Elements as set;
-ghost use Rattle.reading_stages.specs.DataEntries as said;
-ghost use Rattle.reading_stages.specs.DataDomains as domain;
-ghost use Rattle.data_entries.specs.EntryViews.{cell_view};
-ghost use Rattle.data_entries.specs.SaidViews.{said_view};
-ghost use Rattle.element_sets.specs.Runs.{is_hollow};
-ghost use Rattle.element_sets.specs.Sets.{runs_in, IsGathered, IsSetOf};
+ghost use Rattle.stage_definitions.specs.Elements as set;
+ghost use Rattle.stage_definitions.specs.DataEntries as said;
+ghost use Rattle.stage_definitions.specs.DataDomains as domain;
+ghost use Rattle.structure_entries.specs.EntryViews.{cell_view};
+ghost use Rattle.structure_entries.specs.SaidViews.{said_view};
+ghost use Rattle.data_domains.specs.Runs.{is_hollow};
+ghost use Rattle.data_domains.specs.Sets.{runs_in, IsGathered, IsSetOf};
 ghost use Rattle.data_domains.specs.Shares.{IsDeclaredSo, IsGiven, IsSettled, StandsFor, Takes};
 ghost use Rattle.data_domains.specs.declared.traits.Traits.{Traits as TheTraits};
 ghost use Rattle.data_domains.specs.declared.types.TypeData.{TypeData as Data};
@@ -19,13 +19,13 @@ ghost use Rattle.data_domains.specs.TypeSets.{AreTypesOf};
 
 use crate::filling::{add_declared, add_entries};
 use crate::kinds::is_natural_type;
+use crate::sets::ElementSet;
 use crate::traits::{Traits, listed_types};
-use data_entries::elements::Cell;
-use data_entries::written::Entry;
-use element_sets::sets::ElementSet;
 use kb_logic::{Memory, TypeDecl};
-use reading_stages::{is_number_type, parent_of, type_above};
+use stage_definitions::{is_number_type, parent_of, type_above};
 use std::alloc::Global;
+use structure_entries::elements::Cell;
+use structure_entries::written::Entry;
 
 /// A type beside a structure: its traits, and its elements as cells and as a set.
 ///

@@ -9,8 +9,8 @@ use Rattle.kb_logic.specs.KnownAtoms.{KnownAtoms, atoms_over}
 use Rattle.kb_logic.specs.Models.{GroundAtom}
 use Rattle.partial_structures.specs.KnownAtoms.{same_atom, with_closed}
 use Rattle.partial_structures.proofs.Listed.{listed}
-use Rattle.reading_stages.specs.DataEntries.{Said, Subject, nothing_named, an_element, a_type, a_symbol}
-use Rattle.reading_stages.specs.DataFacts.{Fact, says_true, says_false, gives_whole, is_whole}
+use Rattle.stage_definitions.specs.DataEntries.{Said, Subject, nothing_named, an_element, a_type, a_symbol}
+use Rattle.stage_definitions.specs.DataFacts.{Fact, says_true, says_false, gives_whole, is_whole}
 use Rattle.data_filling.specs.Filling.{known_from, Closes, ClosesSubject}
 use Rattle.data_filling.proofs.Lists.{filter_same, same_turned}
 use Rattle.data_filling.proofs.Steps.{same_known}

@@ -16,29 +16,33 @@ use Rattle.kb_logic.specs.declared.vocabularies.Vocabulary.{Vocabulary}
 use Rattle.kb_logic.specs.Models.{HasValueIn}
 use Rattle.kb_logic.specs.Structures.{EachWith}
 use Rattle.kb_logic.proofs.Members.{first, later, member_cases, none_in}
-use Rattle.fo_syntax.specs.BlockTrees as raw
-use Rattle.reading_stages.specs.Names.{text_of}
-use Rattle.reading_stages.specs.Elements.{Cell, one, is_in, is_among, is_covered, members, same_element}
-use Rattle.reading_stages.specs.DataEntries.{Subject, nothing_named, an_element, a_type, a_symbol, named_in_types}
-use Rattle.reading_stages.specs.DataEntries.{named_in_symbols, named_in_elements, subject_of, is_plain_list, WrittenRow}
-use Rattle.reading_stages.specs.DataEntries.{element_of, Said, said_in, entries_in, is_value_for, fits_in, fitting}
-use Rattle.reading_stages.specs.DataEntries.{cell_of, Spot, item_spots, value_spots, row_spots, spots_of, sense_of}
-use Rattle.reading_stages.specs.DataEntries.{place_of_item, place_of_element}
-use Rattle.reading_stages.specs.Below.{type_above}
-use Rattle.reading_stages.specs.DataDomains.{cells_if, cells_of, domains_of, listed_cells, made_cells, parent_of_type}
-use Rattle.reading_stages.specs.DataDomains.{is_this, is_listed, is_constructed, has_what_occurs, occurring_cells}
-use Rattle.reading_stages.specs.DataDomains.{occurs_at}
-use Rattle.reading_stages.specs.DataFacts.{Fact, joined_to, cells_read, fact_at, fact_of, signs_of, facts_of, facts_in}
-use Rattle.reading_stages.specs.DataStage.{spot, uses_of_types, uses_of_entries, uses_of_facts, structure_uses, is_idle}
-use Rattle.reading_stages.specs.DataStage.{type_is, gives, is_outside, cell_is, EntriesRefuse}
-use Rattle.structure_laws.proofs.Members.{item_some, item_all, passed, in_some, some_in, of_options}
-use Rattle.structure_laws.proofs.Covered.{covered_is_each}
-use Rattle.structure_laws.proofs.GivenDomains.{in_listing}
-use Rattle.structure_laws.proofs.Listing.{in_members}
-use Rattle.structure_laws.proofs.Lists.{is_said, spot_in}
-use Rattle.structure_laws.proofs.Missing.{domain_is}
-use Rattle.structure_laws.proofs.Rows.{AreFine, fine, no_element}
-use Rattle.structure_laws.proofs.Same.{itself}
+use Rattle.grammar.specs.BlockTrees as raw
+use Rattle.stage_definitions.specs.Names.{text_of}
+use Rattle.stage_definitions.specs.Elements.{Cell, one, is_in, is_among, is_covered, members, same_element}
+use Rattle.stage_definitions.specs.DataEntries.{Subject, nothing_named, an_element, a_type, a_symbol, named_in_types}
+use Rattle.stage_definitions.specs.DataEntries.{named_in_symbols, named_in_elements, subject_of, is_plain_list}
+use Rattle.stage_definitions.specs.DataEntries.{WrittenRow}
+use Rattle.stage_definitions.specs.DataEntries.{element_of, Said, said_in, entries_in, is_value_for, fits_in, fitting}
+use Rattle.stage_definitions.specs.DataEntries.{cell_of, Spot, item_spots, value_spots, row_spots, spots_of, sense_of}
+use Rattle.stage_definitions.specs.DataEntries.{place_of_item, place_of_element}
+use Rattle.stage_definitions.specs.Below.{type_above}
+use Rattle.stage_definitions.specs.DataDomains.{cells_if, cells_of, domains_of, listed_cells, made_cells}
+use Rattle.stage_definitions.specs.DataDomains.{parent_of_type}
+use Rattle.stage_definitions.specs.DataDomains.{is_this, is_listed, is_constructed, has_what_occurs, occurring_cells}
+use Rattle.stage_definitions.specs.DataDomains.{occurs_at}
+use Rattle.stage_definitions.specs.DataFacts.{Fact, joined_to, cells_read, fact_at, fact_of, signs_of, facts_of}
+use Rattle.stage_definitions.specs.DataFacts.{facts_in}
+use Rattle.stage_definitions.specs.DataStage.{spot, uses_of_types, uses_of_entries, uses_of_facts, structure_uses}
+use Rattle.stage_definitions.specs.DataStage.{is_idle}
+use Rattle.stage_definitions.specs.DataStage.{type_is, gives, is_outside, cell_is, EntriesRefuse}
+use Rattle.reading_laws.proofs.Members.{item_some, item_all, passed, in_some, some_in, of_options}
+use Rattle.reading_laws.proofs.Covered.{covered_is_each}
+use Rattle.reading_laws.proofs.GivenDomains.{in_listing}
+use Rattle.reading_laws.proofs.Listing.{in_members}
+use Rattle.reading_laws.proofs.Lists.{is_said, spot_in}
+use Rattle.reading_laws.proofs.Missing.{domain_is}
+use Rattle.reading_laws.proofs.Rows.{AreFine, fine, no_element}
+use Rattle.reading_laws.proofs.Same.{itself}
 use Rattle.data_filling.specs.Filling.{IsCellOver, IsFactOver, IsNumberOver, IsSubjectOver}
 
 -- ---- lists

@@ -9,9 +9,9 @@ use Rattle.kb_logic.specs.declared.vocabularies.Symbol.{Symbol}
 use Rattle.kb_logic.specs.Models.{GroundAtom}
 use Rattle.kb_logic.specs.Structures.{EachWith}
 use Rattle.kb_logic.proofs.Members.{member_cases, none_in}
-use Rattle.reading_stages.specs.Elements.{Cell, one, same_element, integers_from, members}
-use Rattle.reading_stages.specs.DataFacts.{Fact, are_in, is_about, are_opposed, same_value_of, says_true, says_false}
-use Rattle.structure_laws.proofs.Listing.{in_members}
+use Rattle.stage_definitions.specs.Elements.{Cell, one, same_element, integers_from, members}
+use Rattle.stage_definitions.specs.DataFacts.{Fact, are_in, is_about, are_opposed, same_value_of, says_true, says_false}
+use Rattle.reading_laws.proofs.Listing.{in_members}
 use Rattle.data_filling.specs.Filling.{IsCellOver, IsFactOver, fact_with}
 use Rattle.data_filling.proofs.Lists.{any_and, and_any}
 use Rattle.data_filling.proofs.Steps.{SaySame}

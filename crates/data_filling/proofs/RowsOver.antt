@@ -6,15 +6,16 @@ use Rattle.std.proofs.lemmas.List.{drop_all}
 use Rattle.std.proofs.lemmas.List.Elements.{filter-append, filter_map-append}
 use Rattle.kb_logic.specs.declared.elements.Elem.{Elem}
 use Rattle.kb_logic.specs.Models.{GroundAtom}
-use Rattle.fo_syntax.specs.BlockTrees as raw
-use Rattle.reading_stages.specs.Elements.{one}
-use Rattle.reading_stages.specs.DataEntries.{Subject, WrittenRow, nothing_named, an_element, a_type, a_symbol, cell_of}
-use Rattle.reading_stages.specs.DataEntries.{element_of, fits_in, is_plain_list}
-use Rattle.reading_stages.specs.DataFacts.{Fact, added_to, cells_read, fact_at, fact_of, joined_to}
-use Rattle.reading_stages.specs.DataFacts.{single_element, single_elements}
-use Rattle.data_entries.proofs.Dropped.{front}
-use Rattle.data_entries.specs.EntryViews.{row_view}
-use Rattle.data_entries.specs.declared.rows.Row.{Row}
+use Rattle.grammar.specs.BlockTrees as raw
+use Rattle.stage_definitions.specs.Elements.{one}
+use Rattle.stage_definitions.specs.DataEntries.{Subject, WrittenRow, nothing_named, an_element, a_type, a_symbol}
+use Rattle.stage_definitions.specs.DataEntries.{cell_of}
+use Rattle.stage_definitions.specs.DataEntries.{element_of, fits_in, is_plain_list}
+use Rattle.stage_definitions.specs.DataFacts.{Fact, added_to, cells_read, fact_at, fact_of, joined_to}
+use Rattle.stage_definitions.specs.DataFacts.{single_element, single_elements}
+use Rattle.structure_entries.proofs.Dropped.{front}
+use Rattle.structure_entries.specs.EntryViews.{row_view}
+use Rattle.structure_entries.specs.declared.rows.Row.{Row}
 use Rattle.data_filling.specs.Filling.{atom_with, row_facts, single_fact, symbol_named}
 
 -- ---- the first row, and those after it

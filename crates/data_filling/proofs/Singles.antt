@@ -11,9 +11,9 @@ use Rattle.kb_logic.proofs.Atoms.{elements_tuple}
 use Rattle.kb_logic.proofs.Members.{first}
 use Rattle.partial_structures.specs.KnownAtoms.{same_row, same_option, same_atom, is_rival, both_values}
 use Rattle.partial_structures.proofs.Sames.{row_is, row_itself, atom_is, atom_itself, atom_by}
-use Rattle.reading_stages.specs.Elements.{one, same_element}
-use Rattle.reading_stages.specs.DataFacts.{Fact, are_in, is_about, are_opposed, same_value_of, says_true, says_false}
-use Rattle.structure_laws.proofs.Same.{is_same, itself, same_value_is, value_itself}
+use Rattle.stage_definitions.specs.Elements.{one, same_element}
+use Rattle.stage_definitions.specs.DataFacts.{Fact, are_in, is_about, are_opposed, same_value_of, says_true, says_false}
+use Rattle.reading_laws.proofs.Same.{is_same, itself, same_value_is, value_itself}
 use Rattle.data_filling.specs.Filling.{IsCellOver, IsFactOver, fact_with, atom_with}
 use Rattle.data_filling.proofs.Lists.{both_ways, same_turned}
 

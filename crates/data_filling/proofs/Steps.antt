@@ -10,8 +10,8 @@ use Rattle.kb_logic.specs.Models.{GroundAtom}
 use Rattle.kb_logic.proofs.AllAtoms.{listed_over}
 use Rattle.partial_structures.specs.KnownAtoms.{same_atom, is_rival, with_true, with_false, nothing_known}
 use Rattle.partial_structures.proofs.Listed.{listed}
-use Rattle.reading_stages.specs.DataEntries.{Said}
-use Rattle.reading_stages.specs.DataFacts.{Fact, says_true, says_false, is_whole}
+use Rattle.stage_definitions.specs.DataEntries.{Said}
+use Rattle.stage_definitions.specs.DataFacts.{Fact, says_true, says_false, is_whole}
 use Rattle.data_filling.specs.Filling.{known_from, IsFactOver, Adds, fact_with, atom_with}
 use Rattle.data_filling.proofs.Lists.{filter_same, none_kept}
 use Rattle.data_filling.proofs.Singles.{true_is, true_is_not, false_is, rival_is}

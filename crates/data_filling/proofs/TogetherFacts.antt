@@ -14,18 +14,18 @@ use Rattle.kb_logic.specs.Bounds.{Interval}
 use Rattle.kb_logic.specs.KnownAtoms.{KnownAtoms}
 use Rattle.kb_logic.specs.Models.{GroundAtom}
 use Rattle.kb_logic.specs.Structures.{domain_at, EachWith}
-use Rattle.reading_stages.specs.Scopes.{Text}
-use Rattle.reading_stages.specs.Elements.{Cell, one, span, is_in, is_among, members, same_element}
-use Rattle.reading_stages.specs.DataFacts.{Fact, are_in, are_opposed, same_value_of, says_true, says_false}
-use Rattle.structure_laws.proofs.Listing.{in_members}
-use Rattle.structure_laws.proofs.Members.{item_some}
-use Rattle.structure_laws.proofs.Same.{is_same, itself}
-use Rattle.element_sets.specs.Sets.{interval_view, runs_in, words_in, IsSetOf}
-use Rattle.element_sets.specs.declared.intervals.Interval.{Interval as RunInterval}
-use Rattle.element_sets.specs.declared.sets.ElementSet.{ElementSet}
-use Rattle.element_sets.proofs.WordSets.{words_among}
-use Rattle.data_entries.specs.EntryViews.{cell_view}
-use Rattle.data_entries.specs.declared.elements.Cell.{Cell as ACell}
+use Rattle.stage_definitions.specs.Scopes.{Text}
+use Rattle.stage_definitions.specs.Elements.{Cell, one, span, is_in, is_among, members, same_element}
+use Rattle.stage_definitions.specs.DataFacts.{Fact, are_in, are_opposed, same_value_of, says_true, says_false}
+use Rattle.reading_laws.proofs.Listing.{in_members}
+use Rattle.reading_laws.proofs.Members.{item_some}
+use Rattle.reading_laws.proofs.Same.{is_same, itself}
+use Rattle.data_domains.specs.Sets.{interval_view, runs_in, words_in, IsSetOf}
+use Rattle.data_domains.specs.declared.intervals.Interval.{Interval as RunInterval}
+use Rattle.data_domains.specs.declared.sets.ElementSet.{ElementSet}
+use Rattle.data_domains.proofs.WordSets.{words_among}
+use Rattle.structure_entries.specs.EntryViews.{cell_view}
+use Rattle.structure_entries.specs.declared.elements.Cell.{Cell as ACell}
 use Rattle.data_filling.specs.Filling.{Adds, IsCellOver, IsFactOver, IsOpenTo}
 use Rattle.data_filling.specs.Together.{cells_in, fact_over, facts_over, placeless}
 use Rattle.data_filling.proofs.Lists.{any_and, and_any}

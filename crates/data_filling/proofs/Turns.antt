@@ -14,12 +14,12 @@ use Rattle.kb_logic.specs.KnownAtoms.{KnownAtoms}
 use Rattle.kb_logic.specs.Structures.{IsDistinct}
 use Rattle.kb_logic.proofs.Members.{first, later, in_all}
 use Rattle.partial_structures.specs.KnownAtoms.{nothing_known}
-use Rattle.reading_stages.specs.Elements.{span, as_interval, size_of, integers_from, members, listed}
-use Rattle.reading_stages.specs.DataAnswer.{given_by}
-use Rattle.reading_stages.specs.DataDomains.{cells_by, domains_of}
-use Rattle.reading_stages.specs.DataEntries.{Said, said_in}
-use Rattle.reading_stages.specs.DataFacts.{Fact, facts_of, facts_in}
-use Rattle.structure_laws.proofs.Sharing.{listed_are_distinct}
+use Rattle.stage_definitions.specs.Elements.{span, as_interval, size_of, integers_from, members, listed}
+use Rattle.stage_definitions.specs.DataAnswer.{given_by}
+use Rattle.stage_definitions.specs.DataDomains.{cells_by, domains_of}
+use Rattle.stage_definitions.specs.DataEntries.{Said, said_in}
+use Rattle.stage_definitions.specs.DataFacts.{Fact, facts_of, facts_in}
+use Rattle.reading_laws.proofs.Sharing.{listed_are_distinct}
 use Rattle.data_filling.specs.Filling.{AreAccepted, known_from, IsFactOver, IsSubjectOver, Adds, Closes, fact_with}
 use Rattle.data_filling.proofs.FactsOver.{each_over, subjects_over}
 use Rattle.data_filling.proofs.RangeFacts.{facts_with, range_same, element_over, integers_more}

@@ -18,10 +18,10 @@ use Rattle.partial_structures.proofs.Sames.{atom_itself}
 use Rattle.kb_logic.specs.declared.vocabularies.Vocabulary.{Vocabulary}
 use Rattle.partial_structures.specs.KnownAtoms.{nothing_known}
 use Rattle.std.proofs.lemmas.List.{map-append}
-use Rattle.reading_stages.specs.Elements.{span, as_interval, size_of, integers_from, members}
-use Rattle.reading_stages.specs.DataEntries.{Said, said_in}
-use Rattle.reading_stages.specs.DataFacts.{Fact, facts_of, facts_in, says_true, says_false, is_whole, is_said_true}
-use Rattle.structure_laws.proofs.Consistent.{given_is_consistent}
+use Rattle.stage_definitions.specs.Elements.{span, as_interval, size_of, integers_from, members}
+use Rattle.stage_definitions.specs.DataEntries.{Said, said_in}
+use Rattle.stage_definitions.specs.DataFacts.{Fact, facts_of, facts_in, says_true, says_false, is_whole, is_said_true}
+use Rattle.reading_laws.proofs.Consistent.{given_is_consistent}
 use Rattle.data_filling.specs.Filling.{AreAccepted, known_from, IsFactOver, Adds, IsOpenTo, fact_with, atom_with}
 use Rattle.data_filling.proofs.RangeFacts.{facts_with, range_same, integers_more}
 use Rattle.data_filling.proofs.Singles.{true_is, false_is, atom_over}

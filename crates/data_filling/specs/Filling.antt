@@ -10,12 +10,12 @@ use Rattle.kb_logic.specs.KnownAtoms.{KnownAtoms, atoms_over}
 use Rattle.kb_logic.specs.Models.{GroundAtom, HasValueIn}
 use Rattle.kb_logic.specs.Structures.{domain_at, EachWith}
 use Rattle.partial_structures.specs.KnownAtoms.{with_closed}
-use Rattle.fo_syntax.specs.BlockTrees as raw
-use Rattle.reading_stages.specs.Elements.{Cell, one, members}
-use Rattle.reading_stages.specs.DataEntries.{Subject, nothing_named, an_element, a_type, a_symbol, Said, WrittenRow}
-use Rattle.reading_stages.specs.DataEntries.{element_of, fits_in, said_in}
-use Rattle.reading_stages.specs.DataFacts.{Fact, fact_at, fact_of, says_true, says_false, is_whole}
-use Rattle.reading_stages.specs.DataStage.{EntriesRefuse}
+use Rattle.grammar.specs.BlockTrees as raw
+use Rattle.stage_definitions.specs.Elements.{Cell, one, members}
+use Rattle.stage_definitions.specs.DataEntries.{Subject, nothing_named, an_element, a_type, a_symbol, Said, WrittenRow}
+use Rattle.stage_definitions.specs.DataEntries.{element_of, fits_in, said_in}
+use Rattle.stage_definitions.specs.DataFacts.{Fact, fact_at, fact_of, says_true, says_false, is_whole}
+use Rattle.stage_definitions.specs.DataStage.{EntriesRefuse}
 
 -- these are the entries of a structure of which nothing is refused, wherever the types are declared
 pub record AreAccepted (v : Vocabulary) (es : List Said) : Type 0 where

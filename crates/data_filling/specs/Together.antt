@@ -1,10 +1,10 @@
 -- Facts that differ in their only argument alone, as the rows of a predicate over one type.
 use Rattle.std.specs.Prelude.{ℕ, Bool, List, [], ◌∷◌, ◌++◌, map, None}
 use Rattle.kb_logic.specs.declared.elements.Elem.TheVariants.{Named}
-use Rattle.reading_stages.specs.Elements.{Cell, one, span}
-use Rattle.reading_stages.specs.DataFacts.{Fact}
-use Rattle.element_sets.specs.Sets.{runs_in, words_in}
-use Rattle.element_sets.specs.declared.sets.ElementSet.{ElementSet}
+use Rattle.stage_definitions.specs.Elements.{Cell, one, span}
+use Rattle.stage_definitions.specs.DataFacts.{Fact}
+use Rattle.data_domains.specs.Sets.{runs_in, words_in}
+use Rattle.data_domains.specs.declared.sets.ElementSet.{ElementSet}
 
 -- the fact that the atoms of a symbol with an argument in the cell are true, or false
 abbrev pub fact_over : ℕ → Bool → Cell → Fact

@@ -1,15 +1,15 @@
 //! What is false since it is not listed.
 ghost use Rattle.std.specs.Prelude.{◌<◌, ◌∷◌, [], length, map, OnOk};
 ghost use Rattle.std.specs.List.{AllByRecursion};
-ghost use Rattle.data_entries.specs.EntryViews.{subject_view};
-ghost use Rattle.data_entries.specs.SaidViews.{said_view};
+ghost use Rattle.structure_entries.specs.EntryViews.{subject_view};
+ghost use Rattle.structure_entries.specs.SaidViews.{said_view};
 ghost use Rattle.data_filling.specs.Filling.{Closes, ClosesSubject, IsNumberOver, IsSubjectOver};
 
 use crate::facts::symbol_number;
-use data_entries::subjects::Subject;
-use data_entries::written::Entry;
 use kb_logic::Memory;
 use partial_structures::Partial;
+use structure_entries::subjects::Subject;
+use structure_entries::written::Entry;
 
 /// An entry without a mark gives its symbol whole.
 fn close_entry(entry: &Entry<'_>, partial: &mut Partial) -> Result<(), Memory>

@@ -3,13 +3,13 @@ ghost use Rattle.std.specs.Prelude.{◌≡◌, map, IfOk, IfSome};
 ghost use Rattle.std.specs.Option.{option_map};
 ghost use Rattle.kb_logic.specs.declared.elements.Elem.TheVariants as elem;
 ghost use Rattle.row_tries.specs.Lent.{lent_view};
-ghost use Rattle.reading_stages.specs.Elements.{one};
-ghost use Rattle.data_entries.specs.EntryViews.{cell_view, elem_view};
+ghost use Rattle.stage_definitions.specs.Elements.{one};
+ghost use Rattle.structure_entries.specs.EntryViews.{cell_view, elem_view};
 
-use data_entries::elements::{Cell, Element};
 use kb_logic::{Elem, ElemList, Memory, Name};
 use partial_structures::LentElem;
 use std::alloc::Global;
+use structure_entries::elements::{Cell, Element};
 
 /// An integer as an element, which lies from -1,000,000 to 1,000,000; none beyond is in a domain.
 fn in_domains(n: i128) -> Option<i64>

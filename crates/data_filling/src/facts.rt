@@ -5,25 +5,25 @@ ghost use Rattle.kb_logic.specs.declared.elements.Elem.TheVariants as elem;
 ghost use Rattle.kb_logic.specs.Models.{IsAtomOver, atom_of};
 ghost use Rattle.partial_structures.specs.KnownAtoms.{value_at, with_false, with_true};
 ghost use Rattle.partial_structures.specs.declared.truths.Truth.TheVariants.{No, Yes};
-ghost use Rattle.reading_stages.specs.DataFacts.{facts_in, facts_of};
-ghost use Rattle.reading_stages.specs.Elements.{span};
-ghost use Rattle.reading_stages.specs.Elements as set;
-ghost use Rattle.data_entries.specs.EntryViews.{fact_view};
-ghost use Rattle.data_entries.specs.SaidViews.{said_view};
-ghost use Rattle.data_entries.specs.WholeViews.{whole_view};
+ghost use Rattle.stage_definitions.specs.DataFacts.{facts_in, facts_of};
+ghost use Rattle.stage_definitions.specs.Elements.{span};
+ghost use Rattle.stage_definitions.specs.Elements as set;
+ghost use Rattle.structure_entries.specs.EntryViews.{fact_view};
+ghost use Rattle.structure_entries.specs.SaidViews.{said_view};
+ghost use Rattle.structure_entries.specs.WholeViews.{whole_view};
 ghost use Rattle.data_filling.specs.Filling.{Adds, IsFactOver, IsOpenTo, atom_with, fact_with};
 
 use crate::elements::{elems_of, number, value_of};
 use crate::rows::{add_rows, have_range};
 use crate::together::add_together;
-use data_entries::elements::Cell;
-use data_entries::facts::{Fact, add_facts};
-use data_entries::senses::{Sense, sense_of};
-use data_entries::wholes::Whole;
-use data_entries::written::Entry;
 use kb_logic::{ElemList, Literal, Memory};
 use partial_structures::{Partial, SetError};
 use std::alloc::Global;
+use structure_entries::elements::Cell;
+use structure_entries::facts::{Fact, add_facts};
+use structure_entries::senses::{Sense, sense_of};
+use structure_entries::wholes::Whole;
+use structure_entries::written::Entry;
 
 /// The number of a symbol in 32 bits; there are never so many that it has none.
 pub fn symbol_number(symbol: usize) -> Result<u32, Memory>

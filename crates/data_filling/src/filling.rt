@@ -1,16 +1,16 @@
 //! Partial structures from entries.
 ghost use Rattle.std.specs.Prelude.{◌≡◌, map, IfOk};
-ghost use Rattle.reading_stages.specs.DataAnswer.{given_by};
-ghost use Rattle.reading_stages.specs.DataDomains.{domains_of};
-ghost use Rattle.data_entries.specs.SaidViews.{said_view};
+ghost use Rattle.stage_definitions.specs.DataAnswer.{given_by};
+ghost use Rattle.stage_definitions.specs.DataDomains.{domains_of};
+ghost use Rattle.structure_entries.specs.SaidViews.{said_view};
 ghost use Rattle.data_filling.specs.Filling.{AreAccepted};
 
 use crate::closing::close_entries;
 use crate::facts::add_entries;
-use data_entries::written::Entry;
 use kb_logic::{DomainList, Memory, Vocabulary};
 use partial_structures::Partial;
 use std::alloc::Global;
+use structure_entries::written::Entry;
 
 /// What the entries of a structure make known, over the domains that they give. Nothing of the structure is refused.
 pub fn fill(

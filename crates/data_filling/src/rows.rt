@@ -4,27 +4,27 @@
 //! name takes memory of its own, and one list of arguments serves all rows.
 ghost use Rattle.std.specs.Prelude.{◌≡◌, ◌∷◌, [], map, option_map, true, Some, IfOk, OnOk};
 ghost use Rattle.std.specs.List.{AllByRecursion};
-ghost use Rattle.fo_syntax.specs.BlockView.{element_view};
+ghost use Rattle.grammar.specs.BlockView.{element_view};
 ghost use Rattle.row_tries.specs.Lent.{lent_view};
-ghost use Rattle.reading_stages.specs.DataEntries as said;
-ghost use Rattle.reading_stages.specs.DataFacts as stated;
-ghost use Rattle.data_entries.specs.EntryViews.{items_of, row_view, subject_view};
-ghost use Rattle.data_entries.specs.SaidViews.{said_view};
+ghost use Rattle.stage_definitions.specs.DataEntries as said;
+ghost use Rattle.stage_definitions.specs.DataFacts as stated;
+ghost use Rattle.structure_entries.specs.EntryViews.{items_of, row_view, subject_view};
+ghost use Rattle.structure_entries.specs.SaidViews.{said_view};
 ghost use Rattle.data_filling.specs.Filling.{Adds, IsFactOver, IsOpenTo, row_facts, single_fact, symbol_named};
 
 use crate::elements::lent_of;
 use crate::facts::{add_each, symbol_number};
-use data_entries::elements::{element_of, single_element};
-use data_entries::facts::add_row;
-use data_entries::items::RowItems;
-use data_entries::rows::Row;
-use data_entries::spots::fits_in;
-use data_entries::subjects::Subject;
-use data_entries::written::Entry;
-use fo_syntax::RawElement;
+use grammar::RawElement;
 use kb_logic::Memory;
 use partial_structures::{LentElem, Partial};
 use std::alloc::Global;
+use structure_entries::elements::{element_of, single_element};
+use structure_entries::facts::add_row;
+use structure_entries::items::RowItems;
+use structure_entries::rows::Row;
+use structure_entries::spots::fits_in;
+use structure_entries::subjects::Subject;
+use structure_entries::written::Entry;
 
 /// A row's value, lent.
 fn lent_value<'a>(value: Option<&'a RawElement>) -> Result<Option<LentElem<'a>>, Memory>

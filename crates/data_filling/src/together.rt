@@ -3,21 +3,21 @@
 //! Their arguments are made a set first, so that an integer that stands in many ranges is added once.
 ghost use Rattle.std.specs.Prelude.{◌≡◌, ◌++◌, ◌∷◌, [], ◌<◌, length, map, IfOk, IfSome, OnOk};
 ghost use Rattle.std.specs.List.{AllByRecursion};
-ghost use Rattle.reading_stages.specs.Elements.{one, span};
+ghost use Rattle.stage_definitions.specs.Elements.{one, span};
 ghost use Rattle.kb_logic.specs.declared.elements.Elem.TheVariants as elem;
-ghost use Rattle.data_entries.specs.EntryViews.{cell_view, fact_view};
-ghost use Rattle.element_sets.specs.Sets.{interval_view, runs_in, words_in};
+ghost use Rattle.structure_entries.specs.EntryViews.{cell_view, fact_view};
+ghost use Rattle.data_domains.specs.Sets.{interval_view, runs_in, words_in};
 ghost use Rattle.data_filling.specs.Filling.{Adds, IsFactOver, IsOpenTo};
 ghost use Rattle.data_filling.specs.Together.{cells_in, fact_over, facts_over, placeless};
 
 use crate::facts::add_each;
-use data_entries::elements::{Cell, Element};
-use data_entries::facts::Fact;
-use element_sets::intervals::Interval;
-use element_sets::sets::ElementSet;
+use data_domains::intervals::Interval;
+use data_domains::sets::ElementSet;
 use kb_logic::Memory;
 use partial_structures::Partial;
 use std::alloc::Global;
+use structure_entries::elements::{Cell, Element};
+use structure_entries::facts::Fact;
 
 /// The only argument of a fact of this symbol and sign and without a value.
 fn only_cell<'a>(symbol: usize, holds: bool, fact: &Fact<'a>) -> Option<Cell<'a>>

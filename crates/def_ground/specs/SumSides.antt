@@ -4,7 +4,8 @@
 -- Of the rows of a side exactly one holds, and its value is a number. So the side is any number m, and where a row with
 -- another number v holds it is v - m more. The number of one end serves as m: then all these parts have one sign, and
 -- that end of the sum, to which each part goes by itself, is right while the side is open.
-use Rattle.std.specs.Prelude.{ℤ, pos, neg_ℤ, ◌+ℤ◌, ◌-ℤ◌, ◌*ℤ◌, List, [], ◌∷◌, fold, Bool, true, false, not, if◌then◌else◌}
+use Rattle.std.specs.Prelude.{ℤ, pos, neg_ℤ, ◌+ℤ◌, ◌-ℤ◌, ◌*ℤ◌, List, [], ◌∷◌, fold, Bool, true, false, not}
+use Rattle.std.specs.Prelude.{if◌then◌else◌}
 use Rattle.std.specs.Prelude.{Option, Some, None}
 use Rattle.std.specs.Int.{int_max, int_min}
 use Rattle.std.specs.Ordering.{int_eq}

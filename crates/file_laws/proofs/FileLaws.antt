@@ -13,25 +13,25 @@ use Rattle.kb_logic.specs.declared.vocabularies.Symbol.{Symbol}
 use Rattle.kb_logic.specs.Domains.{IsInRange, IsDomainOf}
 use Rattle.kb_logic.specs.Structures.{EachWith}
 use Rattle.kb_logic.proofs.Has.{has_get, contains_from}
-use Rattle.fo_syntax.specs.BlockTrees as raw
-use Rattle.fo_syntax.specs.BlockTrees.{Block}
-use Rattle.fo_syntax.specs.BlockFine.{IsFile, FineFile}
-use Rattle.fo_syntax.specs.BlockSpelling.{put_file}
-use Rattle.fo_syntax.specs.BlockView.{as_vocabulary, as_structure}
-use Rattle.fo_syntax.specs.FileReads.{KbReads, too_long, fits}
-use Rattle.fo_syntax.specs.Items.{IsTokens}
-use Rattle.fo_syntax.specs.Terminals.{Tok}
-use Rattle.fo_syntax.specs.Whole.{Reads, parsed, unscanned, ungrammatical}
-use Rattle.reading_stages.specs.FileTrees.{vocabulary_of}
+use Rattle.grammar.specs.BlockTrees as raw
+use Rattle.grammar.specs.BlockTrees.{Block}
+use Rattle.grammar.specs.BlockFine.{IsFile, FineFile}
+use Rattle.grammar.specs.BlockSpelling.{put_file}
+use Rattle.grammar.specs.BlockView.{as_vocabulary, as_structure}
+use Rattle.grammar.specs.FileReads.{KbReads, too_long, fits}
+use Rattle.grammar.specs.Items.{IsTokens}
+use Rattle.grammar.specs.Terminals.{Tok}
+use Rattle.grammar.specs.Whole.{Reads, parsed, unscanned, ungrammatical}
+use Rattle.stage_definitions.specs.FileTrees.{vocabulary_of}
 use Rattle.fo_reader.proofs.InFile.{one_kb_reading}
-use Rattle.word_laws.specs.Words.{IsFreeWord, IsSpelled, IsAccepted}
-use Rattle.word_laws.proofs.Accepted.{names_are_words, data_are_words}
-use Rattle.block_laws.specs.ReadBack.{IsReadBack}
-use Rattle.block_laws.proofs.Each.{distinct_right}
-use Rattle.accepted_blocks.specs.Accepted.{IsAcceptedData}
-use Rattle.accepted_blocks.proofs.Accepted.{accepted_are_writable, accepted_are_read_back}
-use Rattle.spoken_formulas.specs.Spoken.{names_in, IsSpokenFile, SentencesAreReadAgain}
-use Rattle.spoken_formulas.proofs.Accepted.{accepted_are_spoken, accepted_are_read_again}
+use Rattle.reading_laws.specs.Words.{IsFreeWord, IsSpelled, IsAccepted}
+use Rattle.reading_laws.proofs.AcceptedWords.{names_are_words, data_are_words}
+use Rattle.printed_texts.specs.ReadBlocks.{IsReadBack}
+use Rattle.printed_texts.proofs.Each.{distinct_right}
+use Rattle.file_laws.specs.Accepted.{IsAcceptedData}
+use Rattle.file_laws.proofs.AcceptedBlocks.{accepted_are_writable, accepted_are_read_back}
+use Rattle.file_laws.specs.Spoken.{names_in, IsSpokenFile, SentencesAreReadAgain}
+use Rattle.file_laws.proofs.SpokenAccepted.{accepted_are_spoken, accepted_are_read_again}
 use Rattle.consult_text.specs.OneText.{CanBeWritten}
 use Rattle.base_reader.specs.FileMeanings.{Choice, Meaning, FileMeans}
 use Rattle.file_laws.specs.FileLaws.{FilesHaveWordNames, StructuresAreReadBack, FilesAreSpoken, SentencesAreReadBack}

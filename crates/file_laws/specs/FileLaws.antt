@@ -1,9 +1,9 @@
 -- What a file means is said so that it can be read.
 use Rattle.std.specs.Prelude.{ℕ, List, Ok}
-use Rattle.fo_syntax.specs.BlockTrees.{Block}
-use Rattle.fo_syntax.specs.FileReads.{KbReads}
-use Rattle.spoken_formulas.specs.Spoken.{names_in, IsSpokenFile, SentencesAreReadAgain}
-use Rattle.block_laws.specs.ReadBack.{IsReadBack}
+use Rattle.grammar.specs.BlockTrees.{Block}
+use Rattle.grammar.specs.FileReads.{KbReads}
+use Rattle.file_laws.specs.Spoken.{names_in, IsSpokenFile, SentencesAreReadAgain}
+use Rattle.printed_texts.specs.ReadBlocks.{IsReadBack}
 use Rattle.base_reader.specs.FileMeanings.{Choice, Meaning, FileMeans, base_of_meaning}
 use Rattle.consult_text.specs.OneText.{HasWordNames}
 

@@ -13,9 +13,9 @@ use Rattle.kb_logic.specs.KnownAtoms.{KnownAtoms}
 use Rattle.kb_logic.specs.Models.{GroundAtom, IsAtomOver}
 use Rattle.partial_structures.specs.KnownAtoms.{value_at}
 use Rattle.partial_structures.specs.declared.truths.Truth.TheVariants.{Yes}
-use Rattle.block_texts.specs.Entries.{element, lone_value, PlainRow, row_of, is_known_as, is_some_row, where_none}
-use Rattle.block_texts.specs.Entries.{is_settled, function_atoms, atoms_at, rows_where, rows_at}
-use Rattle.block_texts.specs.Texts.{row_text_of, next_row_text}
+use Rattle.printed_texts.specs.Entries.{element, lone_value, PlainRow, row_of, is_known_as, is_some_row, where_none}
+use Rattle.printed_texts.specs.Entries.{is_settled, function_atoms, atoms_at, rows_where, rows_at}
+use Rattle.printed_texts.specs.Texts.{row_text_of, next_row_text}
 use Rattle.fo_printer.specs.declared.rows.RowText.{RowText}
 use Rattle.fo_printer.specs.declared.gathering.SymbolText.{SymbolText}
 use Rattle.fo_printer.specs.Gathering.{rows_text_after, HasMore, HasNotedAtoms, HasGathered, AreAtomsOver}

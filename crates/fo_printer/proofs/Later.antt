@@ -9,10 +9,10 @@ use Rattle.kb_logic.specs.declared.syntax.Term.{Term}
 use Rattle.kb_logic.specs.declared.syntax.Signed.{Signed}
 use Rattle.kb_logic.specs.Trees.{formulas_of, terms_of, summands_of}
 use Rattle.kb_logic.specs.Views.{formula_view, term_view, signed_view}
-use Rattle.formula_texts.specs.Formulas.{add_text}
-use Rattle.formula_texts.specs.FormulaTexts.{opened_text, spaced_text}
-use Rattle.formula_texts.specs.FormulaPrints.{formula_text, later_formulas, term_text, later_terms, terms_text}
-use Rattle.formula_texts.specs.FormulaPrints.{arguments_text, later_summands}
+use Rattle.printed_texts.specs.Formulas.{add_text}
+use Rattle.printed_texts.specs.FormulaTexts.{opened_text, spaced_text}
+use Rattle.printed_texts.specs.FormulaPrints.{formula_text, later_formulas, term_text, later_terms, terms_text}
+use Rattle.printed_texts.specs.FormulaPrints.{arguments_text, later_summands}
 
 module _ (v : Vocabulary) (scope : List (List ℕ)) (sep : List ℕ) where
   pub formulas_later : (fs : List Formula) → later_formulas v scope sep (formulas_of (map formula_view fs))

@@ -3,8 +3,8 @@ use Rattle.std.proofs.Common.{◌≡◌, ℕ, List, [], ◌∷◌, ◌++◌, fla
 use Rattle.std.specs.Prelude.{Result, OnOk}
 use Rattle.std.proofs.lemmas.Grind.{flat_map-append}
 use Rattle.std.proofs.lemmas.Result.{on_ok_weaker}
-use Rattle.block_texts.specs.Entries.{PlainEntry}
-use Rattle.block_texts.specs.Texts.{entry_text, entries_text}
+use Rattle.printed_texts.specs.Entries.{PlainEntry}
+use Rattle.printed_texts.specs.Texts.{entry_text, entries_text}
 
 pub entries_each : {A : Type 0} (entries : A → List PlainEntry) (xs : List A) → entries_text (flat_map entries xs)
     ≡ flat_map (λ x. entries_text (entries x)) xs

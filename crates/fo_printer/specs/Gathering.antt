@@ -5,9 +5,9 @@ use Rattle.kb_logic.specs.declared.elements.Elem.{Elem}
 use Rattle.kb_logic.specs.declared.vocabularies.Symbol.{Symbol}
 use Rattle.kb_logic.specs.KnownAtoms.{KnownAtoms}
 use Rattle.kb_logic.specs.Models.{GroundAtom, IsAtomOver}
-use Rattle.block_texts.specs.Entries.{PlainRow, is_some_row, where_none, is_settled, rows_where, rows_at, is_whole}
-use Rattle.block_texts.specs.Entries.{true_rows, false_rows}
-use Rattle.block_texts.specs.Texts.{next_row_text, rows_text}
+use Rattle.printed_texts.specs.Entries.{PlainRow, is_some_row, where_none, is_settled, rows_where, rows_at, is_whole}
+use Rattle.printed_texts.specs.Entries.{true_rows, false_rows}
+use Rattle.printed_texts.specs.Texts.{next_row_text, rows_text}
 use Rattle.fo_printer.specs.declared.rows.RowText.{RowText}
 use Rattle.fo_printer.specs.declared.gathering.SymbolText.{SymbolText}
 

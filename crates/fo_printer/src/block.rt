@@ -2,9 +2,9 @@
 ghost use Rattle.std.specs.Prelude.{◌≡◌, ◌++◌, ◌≤◌, ◌^◌, OnOk, OnErr, flat_map, length};
 ghost use Rattle.std.specs.List.{enumerate_from};
 ghost use Rattle.kb_logic.specs.Structures.{domain_at};
-ghost use Rattle.block_texts.specs.Entries.{entries_of, symbol_entries, type_entries};
-ghost use Rattle.block_texts.specs.Texts.{block_text, entries_text};
-ghost use Rattle.block_laws.specs.ReadBack.{IsReadBack, IsWritable};
+ghost use Rattle.printed_texts.specs.Entries.{entries_of, symbol_entries, type_entries};
+ghost use Rattle.printed_texts.specs.Texts.{block_text, entries_text};
+ghost use Rattle.printed_texts.specs.ReadBlocks.{IsReadBack, IsWritable};
 
 use crate::entries::{push_symbol, push_type};
 use kb_logic::{Elem, ElemList, Memory, Name, TypeDecl, Vocabulary};

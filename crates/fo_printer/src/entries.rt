@@ -3,9 +3,9 @@ ghost use Rattle.std.specs.Prelude.{◌≡◌, ◌++◌, None, Some, OnOk, codes
 ghost use Rattle.std.specs.List.{enumerate_from};
 ghost use Rattle.kb_logic.specs.Models.{IsAtomOver};
 ghost use Rattle.kb_logic.specs.Structures.{domain_at};
-ghost use Rattle.block_texts.specs.Entries.{alone, function_atoms, is_some_row, list_of, lone_value, marked};
-ghost use Rattle.block_texts.specs.Entries.{rows_where, symbol_entries, true_rows, whole_value};
-ghost use Rattle.block_texts.specs.Texts.{entries_text, next_row_text, rows_text, truth_text, value_text};
+ghost use Rattle.printed_texts.specs.Entries.{alone, function_atoms, is_some_row, list_of, lone_value, marked};
+ghost use Rattle.printed_texts.specs.Entries.{rows_where, symbol_entries, true_rows, whole_value};
+ghost use Rattle.printed_texts.specs.Texts.{entries_text, next_row_text, rows_text, truth_text, value_text};
 ghost use Rattle.fo_printer.specs.Gathering.{AreAtomsOver, IsGathered, IsRowText};
 
 use crate::gathering::{SymbolText, gather};

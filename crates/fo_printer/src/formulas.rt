@@ -6,11 +6,11 @@ ghost use Rattle.kb_text.specs.Depth.{outermost};
 ghost use Rattle.kb_text.specs.Tokens.{AreShallow, TokensFrom, unsupported_call_words, unsupported_chain_words};
 ghost use Rattle.kb_logic.specs.Trees.{formulas_of, summands_of, terms_of};
 ghost use Rattle.kb_logic.specs.Views.{formula_view, signed_view, term_view};
-ghost use Rattle.printed_tokens.specs.Written.{lexemes_at, outcome_at};
-ghost use Rattle.reading_stages.specs.Names.{Names};
-ghost use Rattle.formula_texts.specs.Formulas.{add_text};
-ghost use Rattle.formula_texts.specs.FormulaTexts.{minus_text, opened_text, spaced_text};
-ghost use Rattle.formula_texts.specs.FormulaPrints.{
+ghost use Rattle.printed_texts.specs.Written.{lexemes_at, outcome_at};
+ghost use Rattle.stage_definitions.specs.Names.{Names};
+ghost use Rattle.printed_texts.specs.Formulas.{add_text};
+ghost use Rattle.printed_texts.specs.FormulaTexts.{minus_text, opened_text, spaced_text};
+ghost use Rattle.printed_texts.specs.FormulaPrints.{
   arguments_text,
   bound_names,
   bound_text,
@@ -28,7 +28,7 @@ ghost use Rattle.formula_texts.specs.FormulaPrints.{
   type_word,
   with_weight,
 };
-ghost use Rattle.formula_texts.specs.Laws.{IsFormulaReadBack, IsSpoken, formula_parts};
+ghost use Rattle.printed_texts.specs.ReadFormulas.{IsFormulaReadBack, IsSpoken, formula_parts};
 
 use kb_logic::{AggKind, Bound, Cmp, ExtInt, Formula, Memory, Name, Signed, Term, Vocabulary};
 use literal_printer::pieces::push_bytes;

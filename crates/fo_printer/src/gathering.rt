@@ -2,7 +2,7 @@
 ghost use Rattle.std.specs.Prelude.{◌≡◌, [], ◌∷◌, Some, None, OnOk, IfOk, Contains, slice_get};
 ghost use Rattle.kb_logic.specs.Models.{IsAtomOver, atom_of};
 ghost use Rattle.kb_logic.specs.Structures.{tuples_of};
-ghost use Rattle.block_texts.specs.Entries.{atoms_at, function_atoms, is_some_row, rows_where};
+ghost use Rattle.printed_texts.specs.Entries.{atoms_at, function_atoms, is_some_row, rows_where};
 ghost use Rattle.fo_printer.specs.Gathering.{AreAtomsOver, HasMore, HasNotedAtoms, IsGathered};
 
 use crate::rows::RowText;

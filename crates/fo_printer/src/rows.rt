@@ -1,8 +1,8 @@
 //! Rows of a table as they are written.
 ghost use Rattle.std.specs.Prelude.{◌≡◌, ◌++◌, [], ◌∷◌, OnOk, false};
 ghost use Rattle.kb_logic.specs.Models.{atom_of};
-ghost use Rattle.block_texts.specs.Entries.{row_of};
-ghost use Rattle.block_texts.specs.Texts.{row_text_of, to_text};
+ghost use Rattle.printed_texts.specs.Entries.{row_of};
+ghost use Rattle.printed_texts.specs.Texts.{row_text_of, to_text};
 ghost use Rattle.fo_printer.specs.Gathering.{HasMore, IsRowText};
 
 use kb_logic::{Elem, Literal, Memory};

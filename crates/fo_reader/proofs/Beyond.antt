@@ -1,15 +1,15 @@
 -- Where a formula, a term, an application or variables are stuck in a block, whatever follows them.
 use Rattle.std.proofs.Common.{◌≡◌, ℕ, List, [], ◌∷◌, ◌++◌, append-nil, Some, None, ◌⊎◌, inl, inr, refl, sym, ap, ap₂}
 use Rattle.std.proofs.Common.{subst, ◌∙◌, arith}
-use Rattle.fo_syntax.specs.declared.stops.ReadError.{ReadError}
-use Rattle.fo_syntax.specs.declared.stops.ReadError.TheVariants.{Memory, Stuck}
-use Rattle.fo_syntax.specs.declared.terminal.Terminal.TheVariants as t
-use Rattle.fo_syntax.specs.declared.terminal.Outer.TheVariants as o
-use Rattle.fo_syntax.specs.Terminals.{Symbol, Tok, tok_at, mark, word, sign}
-use Rattle.fo_syntax.specs.Trees.{Vars, Formula, App}
-use Rattle.fo_syntax.specs.Spelling.{put_formula, put_term, put_app}
-use Rattle.fo_syntax.specs.Fine.{FineFormula, FineTerm, FineApp}
-use Rattle.fo_syntax.specs.Texts.{SameHead}
+use Rattle.grammar.specs.declared.stops.ReadError.{ReadError}
+use Rattle.grammar.specs.declared.stops.ReadError.TheVariants.{Memory, Stuck}
+use Rattle.grammar.specs.declared.terminal.Terminal.TheVariants as t
+use Rattle.grammar.specs.declared.terminal.Outer.TheVariants as o
+use Rattle.grammar.specs.Terminals.{Symbol, Tok, tok_at, mark, word, sign}
+use Rattle.grammar.specs.Trees.{Vars, Formula, App}
+use Rattle.grammar.specs.Spelling.{put_formula, put_term, put_app}
+use Rattle.grammar.specs.Fine.{FineFormula, FineTerm, FineApp}
+use Rattle.grammar.specs.Texts.{SameHead}
 use Rattle.token_reader.specs.Machine.{Frame, need, want, done, vars_first, colon, dot, beyond, fresh, in_term, Sort}
 use Rattle.token_reader.specs.Machine.{term, formula, on, stuck, whole, run, shuts}
 use Rattle.token_reader.specs.Modes.{mode_formula, sort_formula}

@@ -1,15 +1,15 @@
 -- Variables, applications, terms and formulas as formats, by what follows them in a block.
 use Rattle.std.proofs.Common.{◌≡◌, ℕ, List, [], ◌∷◌, true, Option, Some, None, subst}
-use Rattle.fo_syntax.specs.declared.terminal.Terminal.TheVariants as t
-use Rattle.fo_syntax.specs.declared.terminal.Outer.TheVariants as o
-use Rattle.fo_syntax.specs.Terminals.{Symbol, Tok, tok_at, mark, sign}
-use Rattle.fo_syntax.specs.Trees.{name, untyped, typed, Vars, var, beside, comma, Formula, alone, linked, Or, one, or}
-use Rattle.fo_syntax.specs.Trees.{And, single, and, Unary, not, every, some, prim, Prim, group, truth, atom, compare}
-use Rattle.fo_syntax.specs.Trees.{Term, product, sum, Product, factor, times, Factor, integer, value, brackets}
-use Rattle.fo_syntax.specs.Trees.{negative, count, aggregate, App, constant, empty, apply}
-use Rattle.fo_syntax.specs.Spelling.{put_vars, put_formula, put_links, put_or, put_and, put_unary, put_prim, put_term}
-use Rattle.fo_syntax.specs.Spelling.{put_product, put_factor, put_app}
-use Rattle.fo_syntax.specs.Fine.{FineFormula, FineTerm, FineApp}
+use Rattle.grammar.specs.declared.terminal.Terminal.TheVariants as t
+use Rattle.grammar.specs.declared.terminal.Outer.TheVariants as o
+use Rattle.grammar.specs.Terminals.{Symbol, Tok, tok_at, mark, sign}
+use Rattle.grammar.specs.Trees.{name, untyped, typed, Vars, var, beside, comma, Formula, alone, linked, Or, one, or}
+use Rattle.grammar.specs.Trees.{And, single, and, Unary, not, every, some, prim, Prim, group, truth, atom, compare}
+use Rattle.grammar.specs.Trees.{Term, product, sum, Product, factor, times, Factor, integer, value, brackets}
+use Rattle.grammar.specs.Trees.{negative, count, aggregate, App, constant, empty, apply}
+use Rattle.grammar.specs.Spelling.{put_vars, put_formula, put_links, put_or, put_and, put_unary, put_prim, put_term}
+use Rattle.grammar.specs.Spelling.{put_product, put_factor, put_app}
+use Rattle.grammar.specs.Fine.{FineFormula, FineTerm, FineApp}
 use Rattle.token_reader.specs.Parts.{EndsFactor, EndsTerm}
 use Rattle.block_reader.specs.BlockParts.{Anything}
 use Rattle.token_reader.specs.Signs.{next, Is, AWord}

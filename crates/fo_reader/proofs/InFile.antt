@@ -5,33 +5,33 @@ use Rattle.std.specs.List.{filter_map, cons_option}
 use Rattle.std.proofs.lemmas.List.Elements.{filter_map-append}
 use Rattle.std.proofs.lemmas.List.{map-append}
 use Rattle.kb_text.specs.declared.fault.KbFault.{KbFault}
-use Rattle.fo_syntax.specs.declared.error.KbError.{KbError}
-use Rattle.fo_syntax.specs.declared.error.KbError.TheVariants as errors
-use Rattle.fo_syntax.specs.declared.stops.ReadError.{ReadError}
-use Rattle.fo_syntax.specs.declared.stops.ReadError.TheVariants.{Memory, Stuck}
-use Rattle.fo_syntax.specs.declared.raw_blocks.RawKb.{RawKb}
-use Rattle.fo_syntax.specs.declared.raw_blocks.RawVocabulary.{RawVocabulary}
-use Rattle.fo_syntax.specs.declared.raw_blocks.RawTheory.{RawTheory}
-use Rattle.fo_syntax.specs.declared.raw_blocks.RawStructure.{RawStructure}
-use Rattle.fo_syntax.specs.declared.raw_blocks.RawTerm.{RawTerm}
+use Rattle.grammar.specs.declared.error.KbError.{KbError}
+use Rattle.grammar.specs.declared.error.KbError.TheVariants as errors
+use Rattle.grammar.specs.declared.stops.ReadError.{ReadError}
+use Rattle.grammar.specs.declared.stops.ReadError.TheVariants.{Memory, Stuck}
+use Rattle.grammar.specs.declared.raw_blocks.RawKb.{RawKb}
+use Rattle.grammar.specs.declared.raw_blocks.RawVocabulary.{RawVocabulary}
+use Rattle.grammar.specs.declared.raw_blocks.RawTheory.{RawTheory}
+use Rattle.grammar.specs.declared.raw_blocks.RawStructure.{RawStructure}
+use Rattle.grammar.specs.declared.raw_blocks.RawTerm.{RawTerm}
 use Rattle.fo_reader.specs.declared.file.RawBlock.{RawBlock}
 use Rattle.fo_reader.specs.declared.file.RawBlock.TheVariants as raw
-use Rattle.fo_syntax.specs.declared.terminal.Terminal.TheVariants as t
-use Rattle.fo_syntax.specs.declared.terminal.Outer.TheVariants as o
-use Rattle.fo_syntax.specs.Terminals.{Tok, sign}
-use Rattle.fo_syntax.specs.Texts.{FirstStuck}
-use Rattle.fo_syntax.specs.Items.{IsTokens, ItemsOf}
-use Rattle.fo_syntax.specs.Whole.{parsed, unscanned, ungrammatical, refusal_of}
+use Rattle.grammar.specs.declared.terminal.Terminal.TheVariants as t
+use Rattle.grammar.specs.declared.terminal.Outer.TheVariants as o
+use Rattle.grammar.specs.Terminals.{Tok, sign}
+use Rattle.grammar.specs.Texts.{FirstStuck}
+use Rattle.grammar.specs.Items.{IsTokens, ItemsOf}
+use Rattle.grammar.specs.Whole.{parsed, unscanned, ungrammatical, refusal_of}
 use Rattle.token_reader.specs.Binders.{Whole}
-use Rattle.fo_syntax.specs.BlockTrees.{Block}
-use Rattle.fo_syntax.specs.BlockSpelling.{put_vocabulary, put_theory, put_structure, put_term_block, put_block}
-use Rattle.fo_syntax.specs.BlockSpelling.{put_file}
-use Rattle.fo_syntax.specs.BlockFine.{FineTheory, FineTermBlock, FineBlock, FineFile}
-use Rattle.fo_syntax.specs.BlockView.{vocabulary_view, theory_view, structure_view, term_block_view, as_vocabulary}
-use Rattle.fo_syntax.specs.BlockView.{as_theory, as_structure, as_term_block, IsKb}
+use Rattle.grammar.specs.BlockTrees.{Block}
+use Rattle.grammar.specs.BlockSpelling.{put_vocabulary, put_theory, put_structure, put_term_block, put_block}
+use Rattle.grammar.specs.BlockSpelling.{put_file}
+use Rattle.grammar.specs.BlockFine.{FineTheory, FineTermBlock, FineBlock, FineFile}
+use Rattle.grammar.specs.BlockView.{vocabulary_view, theory_view, structure_view, term_block_view, as_vocabulary}
+use Rattle.grammar.specs.BlockView.{as_theory, as_structure, as_term_block, IsKb}
 use Rattle.block_reader.specs.BlockParts.{Anything, StuckIn, StuckAt}
 use Rattle.token_reader.specs.Signs.{next, No}
-use Rattle.fo_syntax.specs.FileReads.{most_bytes, KbReads, too_long, fits, KbRead}
+use Rattle.grammar.specs.FileReads.{most_bytes, KbReads, too_long, fits, KbRead}
 use Rattle.fo_reader.specs.FileResults.{FileRead, block_view}
 use Rattle.block_reader.proofs.Formats.{Here, at_same, not_first, either_left, either_right, same_in, each_in}
 use Rattle.block_reader.proofs.BlockFormats.{vocabulary_format}

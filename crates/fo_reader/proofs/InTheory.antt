@@ -1,23 +1,23 @@
 -- Where the parts of a theory and of a term are stuck.
 use Rattle.std.proofs.Common.{◌≡◌, ℕ, List, ◌∷◌, Option, refl, ap, ◌∙◌}
-use Rattle.fo_syntax.specs.declared.stops.ReadError.{ReadError}
-use Rattle.fo_syntax.specs.declared.stops.ReadError.TheVariants.{Memory, Stuck}
-use Rattle.fo_syntax.specs.declared.terminal.Terminal.{Terminal}
-use Rattle.fo_syntax.specs.declared.terminal.Terminal.TheVariants as t
-use Rattle.fo_syntax.specs.declared.terminal.Outer.TheVariants as o
-use Rattle.fo_syntax.specs.declared.terminal.Comparison.TheVariants as cmp
-use Rattle.fo_syntax.specs.Terminals.{Symbol, Tok, sign}
-use Rattle.fo_syntax.specs.Trees.{Formula, Term, App}
+use Rattle.grammar.specs.declared.stops.ReadError.{ReadError}
+use Rattle.grammar.specs.declared.stops.ReadError.TheVariants.{Memory, Stuck}
+use Rattle.grammar.specs.declared.terminal.Terminal.{Terminal}
+use Rattle.grammar.specs.declared.terminal.Terminal.TheVariants as t
+use Rattle.grammar.specs.declared.terminal.Outer.TheVariants as o
+use Rattle.grammar.specs.declared.terminal.Comparison.TheVariants as cmp
+use Rattle.grammar.specs.Terminals.{Symbol, Tok, sign}
+use Rattle.grammar.specs.Trees.{Formula, Term, App}
 use Rattle.token_reader.specs.Binders.{Whole, put_binder}
 use Rattle.token_reader.specs.Machine.{fresh}
 use Rattle.token_reader.specs.Parts.{Fails, at_vars}
 use Rattle.formula_reader.specs.Results.{FormulaIs}
-use Rattle.fo_syntax.specs.Fine.{FineFormula, FineTerm, FineApp}
-use Rattle.fo_syntax.specs.Spelling.{put_formula, put_term, put_app}
-use Rattle.fo_syntax.specs.BlockTrees.{Header, Binding, Head, Rule, TheoryItem}
-use Rattle.fo_syntax.specs.BlockSpelling.{put_option, put_each, put_sign, put_header, put_binding, put_head, put_body}
-use Rattle.fo_syntax.specs.BlockSpelling.{put_rule, put_theory_item, put_theory, put_term_block}
-use Rattle.fo_syntax.specs.BlockFine.{FineEach, FineHead, FineBody, FineRule, FineTheoryItem, FineTheory, FineTermBlock}
+use Rattle.grammar.specs.Fine.{FineFormula, FineTerm, FineApp}
+use Rattle.grammar.specs.Spelling.{put_formula, put_term, put_app}
+use Rattle.grammar.specs.BlockTrees.{Header, Binding, Head, Rule, TheoryItem}
+use Rattle.grammar.specs.BlockSpelling.{put_option, put_each, put_sign, put_header, put_binding, put_head, put_body}
+use Rattle.grammar.specs.BlockSpelling.{put_rule, put_theory_item, put_theory, put_term_block}
+use Rattle.grammar.specs.BlockFine.{FineEach, FineHead, FineBody, FineRule, FineTheoryItem, FineTheory, FineTermBlock}
 use Rattle.block_reader.specs.BlockParts.{Anything, StuckAt}
 use Rattle.token_reader.specs.Signs.{next, No, Is, AWord, Absent}
 use Rattle.fo_reader.specs.TheoryReads.{EndsApp, EndsSum, put_ended, FineEnded, put_clause, FineClause}

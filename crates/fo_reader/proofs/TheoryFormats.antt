@@ -1,18 +1,18 @@
 -- The parts of theories and terms, and the file, as formats; and their laws.
 use Rattle.std.proofs.Common.{◌≡◌, ℕ, List, Option, Some, None, ◌⊎◌, inl, inr, refl, sym, subst}
-use Rattle.fo_syntax.specs.declared.terminal.Terminal.TheVariants as t
-use Rattle.fo_syntax.specs.declared.terminal.Outer.TheVariants as o
-use Rattle.fo_syntax.specs.declared.terminal.Comparison.TheVariants as cmp
-use Rattle.fo_syntax.specs.Terminals.{Symbol, Tok}
-use Rattle.fo_syntax.specs.Trees.{Vars, Formula, Term, App}
-use Rattle.fo_syntax.specs.BlockTrees.{Vocabulary, Header, Binding, binding, Head, atom_head, value_head, Rule, rule}
-use Rattle.fo_syntax.specs.BlockTrees.{TheoryItem, sentence, definition, Theory, theory, TermBlock, term_block}
-use Rattle.fo_syntax.specs.BlockTrees.{Structure, Block, vocabulary_block, theory_block, structure_block, value_block}
-use Rattle.fo_syntax.specs.BlockTrees.{procedure}
-use Rattle.fo_syntax.specs.BlockSpelling.{put_binding, put_head, put_rule, put_theory_item, put_theory, put_term_block}
-use Rattle.fo_syntax.specs.BlockSpelling.{put_block}
-use Rattle.fo_syntax.specs.BlockFine.{FineHead, FineBody, FineRule, FineTheoryItem, FineTheory, FineTermBlock}
-use Rattle.fo_syntax.specs.BlockFine.{FineBlock}
+use Rattle.grammar.specs.declared.terminal.Terminal.TheVariants as t
+use Rattle.grammar.specs.declared.terminal.Outer.TheVariants as o
+use Rattle.grammar.specs.declared.terminal.Comparison.TheVariants as cmp
+use Rattle.grammar.specs.Terminals.{Symbol, Tok}
+use Rattle.grammar.specs.Trees.{Vars, Formula, Term, App}
+use Rattle.grammar.specs.BlockTrees.{Vocabulary, Header, Binding, binding, Head, atom_head, value_head, Rule, rule}
+use Rattle.grammar.specs.BlockTrees.{TheoryItem, sentence, definition, Theory, theory, TermBlock, term_block}
+use Rattle.grammar.specs.BlockTrees.{Structure, Block, vocabulary_block, theory_block, structure_block, value_block}
+use Rattle.grammar.specs.BlockTrees.{procedure}
+use Rattle.grammar.specs.BlockSpelling.{put_binding, put_head, put_rule, put_theory_item, put_theory, put_term_block}
+use Rattle.grammar.specs.BlockSpelling.{put_block}
+use Rattle.grammar.specs.BlockFine.{FineHead, FineBody, FineRule, FineTheoryItem, FineTheory, FineTermBlock}
+use Rattle.grammar.specs.BlockFine.{FineBlock}
 use Rattle.block_reader.specs.BlockParts.{Anything}
 use Rattle.token_reader.specs.Signs.{No, Is, AWord}
 use Rattle.fo_reader.specs.TheoryReads.{EndsApp, EndsSum}

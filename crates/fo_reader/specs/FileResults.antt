@@ -1,20 +1,20 @@
 -- What the readers of a file and of one of its blocks return.
 use Rattle.std.specs.Prelude.{ℕ, List, Result, Ok, Err}
 use Rattle.std.specs.Borrow.{Bor}
-use Rattle.fo_syntax.specs.declared.error.KbError.{KbError}
-use Rattle.fo_syntax.specs.declared.error.KbError.TheVariants as errors
-use Rattle.fo_syntax.specs.declared.stops.ReadError.{ReadError}
-use Rattle.fo_syntax.specs.declared.terminal.Item.{Item}
-use Rattle.fo_syntax.specs.declared.raw_blocks.RawKb.{RawKb}
+use Rattle.grammar.specs.declared.error.KbError.{KbError}
+use Rattle.grammar.specs.declared.error.KbError.TheVariants as errors
+use Rattle.grammar.specs.declared.stops.ReadError.{ReadError}
+use Rattle.grammar.specs.declared.terminal.Item.{Item}
+use Rattle.grammar.specs.declared.raw_blocks.RawKb.{RawKb}
 use Rattle.fo_reader.specs.declared.file.RawBlock.{RawBlock}
 use Rattle.fo_reader.specs.declared.file.RawBlock.TheVariants as raw
-use Rattle.fo_syntax.specs.Terminals.{Tok}
-use Rattle.fo_syntax.specs.Texts.{ParsesTo}
-use Rattle.fo_syntax.specs.Whole.{IsStuck}
-use Rattle.fo_syntax.specs.BlockTrees.{Block, vocabulary_block, theory_block, structure_block, value_block, procedure}
-use Rattle.fo_syntax.specs.BlockSpelling.{put_block, put_file}
-use Rattle.fo_syntax.specs.BlockFine.{FineBlock, FineFile}
-use Rattle.fo_syntax.specs.BlockView.{vocabulary_view, theory_view, structure_view, term_block_view, IsKb}
+use Rattle.grammar.specs.Terminals.{Tok}
+use Rattle.grammar.specs.Texts.{ParsesTo}
+use Rattle.grammar.specs.Whole.{IsStuck}
+use Rattle.grammar.specs.BlockTrees.{Block, vocabulary_block, theory_block, structure_block, value_block, procedure}
+use Rattle.grammar.specs.BlockSpelling.{put_block, put_file}
+use Rattle.grammar.specs.BlockFine.{FineBlock, FineFile}
+use Rattle.grammar.specs.BlockView.{vocabulary_view, theory_view, structure_view, term_block_view, IsKb}
 use Rattle.block_reader.specs.BlockParts.{PartRead, Anything}
 
 -- which blocks the file with these tokens has, by kind; or its refusal; out of memory alone is free

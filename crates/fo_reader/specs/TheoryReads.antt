@@ -2,32 +2,32 @@
 use Rattle.std.specs.Prelude.{ℕ, List, map, Option, Some, Result}
 use Rattle.std.specs.Option.{option_map}
 use Rattle.std.specs.Borrow.{Bor}
-use Rattle.fo_syntax.specs.declared.stops.ReadError.{ReadError}
-use Rattle.fo_syntax.specs.declared.terminal.Terminal.TheVariants as t
-use Rattle.fo_syntax.specs.declared.terminal.Outer.TheVariants as o
-use Rattle.fo_syntax.specs.declared.terminal.Item.{Item}
-use Rattle.fo_syntax.specs.declared.raw.RawApp.{RawApp}
-use Rattle.fo_syntax.specs.declared.raw.RawTermTree.{RawTermTree}
-use Rattle.fo_syntax.specs.declared.raw.RawFormula.{RawFormula}
-use Rattle.fo_syntax.specs.declared.raw_blocks.RawBinder.{RawBinder}
-use Rattle.fo_syntax.specs.declared.raw_blocks.RawHead.{RawHead}
-use Rattle.fo_syntax.specs.declared.raw_blocks.RawBody.{RawBody}
-use Rattle.fo_syntax.specs.declared.raw_blocks.RawRule.{RawRule}
-use Rattle.fo_syntax.specs.declared.raw_blocks.RawTheoryItem.{RawTheoryItem}
-use Rattle.fo_syntax.specs.declared.raw_blocks.RawTheory.{RawTheory}
-use Rattle.fo_syntax.specs.declared.raw_blocks.RawTerm.{RawTerm}
-use Rattle.fo_syntax.specs.Terminals.{Symbol, Tok, mark}
-use Rattle.fo_syntax.specs.Trees.{Formula}
+use Rattle.grammar.specs.declared.stops.ReadError.{ReadError}
+use Rattle.grammar.specs.declared.terminal.Terminal.TheVariants as t
+use Rattle.grammar.specs.declared.terminal.Outer.TheVariants as o
+use Rattle.grammar.specs.declared.terminal.Item.{Item}
+use Rattle.grammar.specs.declared.raw.RawApp.{RawApp}
+use Rattle.grammar.specs.declared.raw.RawTermTree.{RawTermTree}
+use Rattle.grammar.specs.declared.raw.RawFormula.{RawFormula}
+use Rattle.grammar.specs.declared.raw_blocks.RawBinder.{RawBinder}
+use Rattle.grammar.specs.declared.raw_blocks.RawHead.{RawHead}
+use Rattle.grammar.specs.declared.raw_blocks.RawBody.{RawBody}
+use Rattle.grammar.specs.declared.raw_blocks.RawRule.{RawRule}
+use Rattle.grammar.specs.declared.raw_blocks.RawTheoryItem.{RawTheoryItem}
+use Rattle.grammar.specs.declared.raw_blocks.RawTheory.{RawTheory}
+use Rattle.grammar.specs.declared.raw_blocks.RawTerm.{RawTerm}
+use Rattle.grammar.specs.Terminals.{Symbol, Tok, mark}
+use Rattle.grammar.specs.Trees.{Formula}
 use Rattle.token_reader.specs.Binders.{Whole}
-use Rattle.fo_syntax.specs.Fine.{FineFormula, FineTerm, FineApp}
-use Rattle.fo_syntax.specs.Spelling.{put_formula, put_term, put_app}
-use Rattle.fo_syntax.specs.View.{formula_view, term_view, app_view}
-use Rattle.fo_syntax.specs.BlockTrees.{Head}
-use Rattle.fo_syntax.specs.BlockSpelling.{put_option, put_each, put_sign, put_binding, put_head, put_body, put_rule}
-use Rattle.fo_syntax.specs.BlockSpelling.{put_theory_item, put_theory, put_term_block}
-use Rattle.fo_syntax.specs.BlockFine.{FineEach, FineHead, FineBody, FineRule, FineTheoryItem, FineTheory, FineTermBlock}
-use Rattle.fo_syntax.specs.BlockView.{binding_view, head_view, body_view, rule_view, theory_item_view, theory_view}
-use Rattle.fo_syntax.specs.BlockView.{term_block_view}
+use Rattle.grammar.specs.Fine.{FineFormula, FineTerm, FineApp}
+use Rattle.grammar.specs.Spelling.{put_formula, put_term, put_app}
+use Rattle.grammar.specs.View.{formula_view, term_view, app_view}
+use Rattle.grammar.specs.BlockTrees.{Head}
+use Rattle.grammar.specs.BlockSpelling.{put_option, put_each, put_sign, put_binding, put_head, put_body, put_rule}
+use Rattle.grammar.specs.BlockSpelling.{put_theory_item, put_theory, put_term_block}
+use Rattle.grammar.specs.BlockFine.{FineEach, FineHead, FineBody, FineRule, FineTheoryItem, FineTheory, FineTermBlock}
+use Rattle.grammar.specs.BlockView.{binding_view, head_view, body_view, rule_view, theory_item_view, theory_view}
+use Rattle.grammar.specs.BlockView.{term_block_view}
 use Rattle.block_reader.specs.BlockParts.{PartRead, Anything, EndsHead}
 use Rattle.token_reader.specs.Signs.{No, Is, itself}
 

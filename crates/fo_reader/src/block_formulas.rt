@@ -1,11 +1,11 @@
 //! Applications, terms and formulas as they stand in a theory or in a term's block.
 ghost use Rattle.std.specs.Prelude.{◌≤◌, ◌<◌, length, IfOk};
-ghost use Rattle.fo_syntax.specs.Terminals.{toks};
+ghost use Rattle.grammar.specs.Terminals.{toks};
 ghost use Rattle.fo_reader.specs.TheoryReads.{ApplicationRead, InnerTermRead, StatementRead};
 
-use fo_syntax::{Item, Outer, RawApp, RawFormula, RawTermTree, Terminal};
 use formula_reader::expressions::Reader;
 use formula_reader::nested::{content, formula, term};
+use grammar::{Item, Outer, RawApp, RawFormula, RawTermTree, Terminal};
 use std::alloc::Global;
 use token_reader::binders::word;
 use token_reader::cursor::{Found, sealed, sign};

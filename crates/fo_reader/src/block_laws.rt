@@ -1,13 +1,13 @@
 //! Laws of the grammar of files.
 ghost use Rattle.std.specs.Prelude.{◌≡◌, ℕ, List, [], Result};
 ghost use Rattle.kb_text.specs.declared.fault.KbFault.{KbFault};
-ghost use Rattle.fo_syntax.specs.Terminals.{Tok};
+ghost use Rattle.grammar.specs.Terminals.{Tok};
 ghost use Rattle.token_reader.specs.Binders.{Whole};
-ghost use Rattle.fo_syntax.specs.BlockTrees.{Block, Declaration, TheoryItem, Rule, Entry};
-ghost use Rattle.fo_syntax.specs.BlockSpelling.{put_block, put_declaration, put_theory_item, put_rule, put_entry};
-ghost use Rattle.fo_syntax.specs.BlockFine.{IsFile, FineBlock, FineTheoryItem, FineRule};
+ghost use Rattle.grammar.specs.BlockTrees.{Block, Declaration, TheoryItem, Rule, Entry};
+ghost use Rattle.grammar.specs.BlockSpelling.{put_block, put_declaration, put_theory_item, put_rule, put_entry};
+ghost use Rattle.grammar.specs.BlockFine.{IsFile, FineBlock, FineTheoryItem, FineRule};
 ghost use Rattle.block_reader.specs.BlockParts.{Anything, EndsDeclaration, OneAtAPlace};
-ghost use Rattle.fo_syntax.specs.FileReads.{KbReads};
+ghost use Rattle.grammar.specs.FileReads.{KbReads};
 
 /// No text is written by two files.
 pub fn one_file()

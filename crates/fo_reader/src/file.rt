@@ -1,16 +1,16 @@
 //! The file: its blocks by kind.
 ghost use Rattle.std.specs.Prelude.{◌≡◌, ◌∷◌, [], ◌++◌, ◌<◌, ℕ, List, None, length, IfOk, true, false};
-ghost use Rattle.fo_syntax.specs.Terminals.{toks};
-ghost use Rattle.fo_syntax.specs.BlockTrees.{Block};
-ghost use Rattle.fo_syntax.specs.BlockView.{IsKb};
+ghost use Rattle.grammar.specs.Terminals.{toks};
+ghost use Rattle.grammar.specs.BlockTrees.{Block};
+ghost use Rattle.grammar.specs.BlockView.{IsKb};
 ghost use Rattle.token_reader.specs.Signs.{next};
 ghost use Rattle.fo_reader.specs.FileResults.{BlockRead, FileRead, block_view};
-ghost use Rattle.fo_syntax.specs.FileReads.{KbRead};
+ghost use Rattle.grammar.specs.FileReads.{KbRead};
 
 use crate::theory::{term_block, theory};
 use block_reader::structure::structure;
 use block_reader::vocabulary::vocabulary;
-use fo_syntax::{
+use grammar::{
     Item, KbError, Outer, RawKb, RawStructure, RawTerm, RawTheory, RawVocabulary, ReadError,
     Terminal,
 };

@@ -8,7 +8,10 @@ mod theory;
 
 pub use block_laws::{one_file, one_file_reading, one_item};
 pub use file::read_kb;
-pub use fo_syntax::{
+pub use formula_reader::{
+    one_formula, one_formula_reading, one_term, one_term_reading, read_formula, read_term,
+};
+pub use grammar::{
     Adding, Aggregation, Arrow, Comparison, ItemTails, KbError, RawAnd, RawAndTail, RawApp,
     RawBinder, RawBody, RawConstructed, RawDeclaration, RawDefinition, RawElement, RawElementTail,
     RawEntry, RawFactor, RawFormula, RawHead, RawHeader, RawInteger, RawIsa, RawItem, RawItemTail,
@@ -18,8 +21,5 @@ pub use fo_syntax::{
     RawTable, RawTerm, RawTermTree, RawTerms, RawTermsTail, RawTheory, RawTheoryItem, RawTo,
     RawType, RawUnary, RawValue, RawVar, RawVarTail, RawVarType, RawVars, RawVocabulary, Separator,
     Text,
-};
-pub use formula_reader::{
-    one_formula, one_formula_reading, one_term, one_term_reading, read_formula, read_term,
 };
 pub use kb_text::{K, KbFault};

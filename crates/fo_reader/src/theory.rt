@@ -1,20 +1,20 @@
 //! The theory, and the term in a block of its own.
 ghost use Rattle.std.specs.Prelude.{◌≡◌, ◌∷◌, ◌≤◌, ◌<◌, length, map, IfOk};
 ghost use Rattle.std.specs.Option.{option_map};
-ghost use Rattle.fo_syntax.specs.BlockTrees as tree;
-ghost use Rattle.fo_syntax.specs.BlockView.{binding_view, body_view, head_view, rule_view};
-ghost use Rattle.fo_syntax.specs.Terminals.{toks};
-ghost use Rattle.fo_syntax.specs.Terminals as terminals;
+ghost use Rattle.grammar.specs.BlockTrees as tree;
+ghost use Rattle.grammar.specs.BlockView.{binding_view, body_view, head_view, rule_view};
+ghost use Rattle.grammar.specs.Terminals.{toks};
+ghost use Rattle.grammar.specs.Terminals as terminals;
 ghost use Rattle.fo_reader.specs.TheoryReads.{BindingsRead, BodyRead, ClauseRead, EndedRead, HeadRead, RuleRead};
 ghost use Rattle.fo_reader.specs.TheoryReads.{RulesRead, StopRead, TermBlockRead, TheoryItemRead, TheoryItemsRead};
 ghost use Rattle.fo_reader.specs.TheoryReads.{TheoryRead};
-ghost use Rattle.fo_syntax.specs.declared.terminal.Terminal.TheVariants as t;
-ghost use Rattle.fo_syntax.specs.declared.terminal.Outer.TheVariants as o;
+ghost use Rattle.grammar.specs.declared.terminal.Terminal.TheVariants as t;
+ghost use Rattle.grammar.specs.declared.terminal.Outer.TheVariants as o;
 
 use crate::block_formulas::{application, inner_term, statement};
 use block_reader::block_ends::{closes, head_ends};
 use block_reader::structure::header;
-use fo_syntax::{
+use grammar::{
     Comparison, Item, Outer, RawBinder, RawBody, RawDefinition, RawHead, RawRule, RawSentence,
     RawTerm, RawTheory, RawTheoryItem, Terminal,
 };

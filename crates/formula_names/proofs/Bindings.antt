@@ -10,7 +10,7 @@ use Rattle.std.proofs.lemmas.Option.{slice_get_within}
 use Rattle.std.proofs.lemmas.Slice.Eq.{bytes_eq-Decides}
 use Rattle.std.specs.Str.{bytes_eq}
 use Rattle.indexmap.specs.IndexMap.{get_by}
-use Rattle.reading_stages.specs.Scopes.{Text, last_position, further}
+use Rattle.stage_definitions.specs.Scopes.{Text, last_position, further}
 use Rattle.formula_names.specs.Levels.{held, level_in, texts_in, IsScope}
 use Rattle.formula_names.specs.declared.scopes.Binding.{Binding}
 use Rattle.formula_names.specs.declared.scopes.Scope.TheInside.{Inside}

@@ -6,15 +6,15 @@ use Rattle.std.specs.Prelude.{Result, Ok, Err, OnOk}
 use Rattle.std.proofs.lemmas.Grind.{fold-append}
 use Rattle.std.proofs.lemmas.List.{append_assoc, take_all}
 use Rattle.kb_text.specs.declared.fault.KbFault.{KbFault}
-use Rattle.fo_syntax.specs.declared.terminal.Adding.{Adding}
-use Rattle.fo_syntax.specs.Trees as raw
-use Rattle.fo_syntax.specs.View.{or_of, and_of, term_of, product_of}
-use Rattle.reading_stages.specs.Scopes.{Text}
-use Rattle.reading_stages.specs.Names.{Names}
-use Rattle.reading_stages.specs.Uses.{Use}
-use Rattle.reading_stages.specs.NamedTrees as tree
-use Rattle.reading_stages.specs.Numbering.{named_or, named_and, named_unary, named_term, named_product}
-use Rattle.reading_stages.specs.Numbering.{named_factor}
+use Rattle.grammar.specs.declared.terminal.Adding.{Adding}
+use Rattle.grammar.specs.Trees as raw
+use Rattle.grammar.specs.View.{or_of, and_of, term_of, product_of}
+use Rattle.stage_definitions.specs.Scopes.{Text}
+use Rattle.stage_definitions.specs.Names.{Names}
+use Rattle.stage_definitions.specs.Uses.{Use}
+use Rattle.stage_definitions.specs.NamedTrees as tree
+use Rattle.stage_definitions.specs.Numbering.{named_or, named_and, named_unary, named_term, named_product}
+use Rattle.stage_definitions.specs.Numbering.{named_factor}
 use Rattle.formula_names.proofs.Operands.{disjunct_named, conjunct_named, summand_named, factor_named}
 use Rattle.formula_names.proofs.Chains.{disjuncts-is, conjuncts-is, summands-is, factors-is}
 

@@ -4,26 +4,27 @@ use Rattle.std.proofs.Common.{map, append-nil, append_assoc, drop, add-one, subs
 use Rattle.std.specs.List.{flat_map}
 use Rattle.std.proofs.lemmas.Grind.{fold-append}
 use Rattle.std.proofs.Math.Seq.{drop-append_seam, drop-length}
-use Rattle.fo_syntax.specs.Trees as raw
-use Rattle.fo_syntax.specs.View.{links_of, or_of, and_of, term_of, product_of, terms_of, vars_of, vars_more}
-use Rattle.fo_syntax.specs.View.{var_tail_view}
-use Rattle.fo_syntax.specs.declared.raw.RawVarTail.{RawVarTail}
-use Rattle.fo_syntax.specs.declared.terminal.Adding.{Adding}
-use Rattle.reading_stages.specs.Scopes.{Text}
-use Rattle.reading_stages.specs.Names.{Names}
-use Rattle.reading_stages.specs.NamesStage.{name_noted}
+use Rattle.grammar.specs.Trees as raw
+use Rattle.grammar.specs.View.{links_of, or_of, and_of, term_of, product_of, terms_of, vars_of, vars_more}
+use Rattle.grammar.specs.View.{var_tail_view}
+use Rattle.grammar.specs.declared.raw.RawVarTail.{RawVarTail}
+use Rattle.grammar.specs.declared.terminal.Adding.{Adding}
+use Rattle.stage_definitions.specs.Scopes.{Text}
+use Rattle.stage_definitions.specs.Names.{Names}
+use Rattle.stage_definitions.specs.NamesStage.{name_noted}
 use Rattle.kb_text.specs.declared.fault.KbFault.{KbFault}
-use Rattle.reading_stages.specs.Uses.{Context, Use, bound, position_uses, uses_of_vars, var_name, var_text, var_type}
-use Rattle.reading_stages.specs.Uses.{within, terms_count, vars_in, uses_in_links, uses_in_or, uses_in_and}
-use Rattle.reading_stages.specs.Uses.{uses_in_unary, uses_in_term, uses_in_operands, uses_in_product, uses_in_factors}
-use Rattle.reading_stages.specs.Uses.{uses_in_factor, uses_in_terms}
-use Rattle.reading_stages.specs.Standings.{in_product, in_sum}
-use Rattle.reading_stages.specs.declared.standings.Standing.{Standing}
-use Rattle.reading_stages.specs.declared.standings.Standing.TheVariants.{Elsewhere}
-use Rattle.reading_stages.specs.NamedTrees as named
-use Rattle.reading_stages.specs.Numbering.{named_links, named_or, disjuncts, named_and, conjuncts, named_unary}
-use Rattle.reading_stages.specs.Numbering.{named_term, summands, named_product, factors, named_factor, named_terms}
-use Rattle.reading_stages.specs.Numbering.{is_minus}
+use Rattle.stage_definitions.specs.Uses.{Context, Use, bound, position_uses, uses_of_vars, var_name, var_text, var_type}
+use Rattle.stage_definitions.specs.Uses.{within, terms_count, vars_in, uses_in_links, uses_in_or, uses_in_and}
+use Rattle.stage_definitions.specs.Uses.{uses_in_unary, uses_in_term, uses_in_operands, uses_in_product}
+use Rattle.stage_definitions.specs.Uses.{uses_in_factors}
+use Rattle.stage_definitions.specs.Uses.{uses_in_factor, uses_in_terms}
+use Rattle.stage_definitions.specs.Standings.{in_product, in_sum}
+use Rattle.stage_definitions.specs.declared.standings.Standing.{Standing}
+use Rattle.stage_definitions.specs.declared.standings.Standing.TheVariants.{Elsewhere}
+use Rattle.stage_definitions.specs.NamedTrees as named
+use Rattle.stage_definitions.specs.Numbering.{named_links, named_or, disjuncts, named_and, conjuncts, named_unary}
+use Rattle.stage_definitions.specs.Numbering.{named_term, summands, named_product, factors, named_factor, named_terms}
+use Rattle.stage_definitions.specs.Numbering.{is_minus}
 use Rattle.formula_names.specs.PartStandings.{factors_stand, operands_stand}
 use Rattle.formula_names.specs.Tails.{tail_var}
 

@@ -3,14 +3,14 @@ use Rattle.std.proofs.Common.{◌≡◌, ◌<◌, ℕ, ◌+◌, List, [], ◌∷
 use Rattle.std.proofs.Common.{◌∙◌, sym, subst, add-zero, add-one, drop-cons, append-nil}
 use Rattle.std.proofs.lemmas.Grind.{fold-append}
 use Rattle.kb_text.specs.declared.fault.KbFault.{KbFault}
-use Rattle.fo_syntax.specs.declared.raw_blocks.RawElementTail.{RawElementTail}
-use Rattle.fo_syntax.specs.declared.raw_blocks.RawDeclaration.{RawDeclaration}
-use Rattle.reading_stages.specs.FileView.{declaration_in, element_name}
-use Rattle.fo_syntax.specs.Trees.{Name}
-use Rattle.reading_stages.specs.Files.{Declaration, type_under, constructed_type, symbol}
-use Rattle.reading_stages.specs.Names.{Names, Meaning, a_type, made, text_of, declared, declared_names, made_names}
-use Rattle.reading_stages.specs.Names.{with_names}
-use Rattle.reading_stages.specs.Uses.{Use, declares, declared_uses}
+use Rattle.grammar.specs.declared.raw_blocks.RawElementTail.{RawElementTail}
+use Rattle.grammar.specs.declared.raw_blocks.RawDeclaration.{RawDeclaration}
+use Rattle.stage_definitions.specs.FileView.{declaration_in, element_name}
+use Rattle.grammar.specs.Trees.{Name}
+use Rattle.stage_definitions.specs.Files.{Declaration, type_under, constructed_type, symbol}
+use Rattle.stage_definitions.specs.Names.{Names, Meaning, a_type, made, text_of, declared, declared_names, made_names}
+use Rattle.stage_definitions.specs.Names.{with_names}
+use Rattle.stage_definitions.specs.Uses.{Use, declares, declared_uses}
 use Rattle.formula_names.specs.Tails.{type_count, symbol_count}
 
 pub with_names-append : (ns : Names) (es fs : List (Name × Meaning)) → with_names ns (es ++ fs) ≡ with_names

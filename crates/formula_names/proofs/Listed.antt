@@ -5,9 +5,9 @@ use Rattle.std.specs.Option.{option_map}
 use Rattle.std.proofs.lemmas.List.{map-append}
 use Rattle.std.specs.Map.{lookup}
 use Rattle.std.specs.Str.{bytes_eq}
-use Rattle.reading_stages.specs.Scopes.{Text}
-use Rattle.reading_stages.specs.Names as names
-use Rattle.reading_stages.specs.Names.{meaning_in, meaning_of, declared}
+use Rattle.stage_definitions.specs.Scopes.{Text}
+use Rattle.stage_definitions.specs.Names as names
+use Rattle.stage_definitions.specs.Names.{meaning_in, meaning_of, declared}
 use Rattle.formula_names.specs.Meanings.{meaning_view}
 use Rattle.formula_names.specs.declared.tables.Meaning.{Meaning}
 

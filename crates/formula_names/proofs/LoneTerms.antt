@@ -2,13 +2,13 @@
 use Rattle.std.proofs.Common.{◌≡◌, ◌∙◌, ◌==◌, ◌&&◌, ℕ, suc, false, List, [], ◌∷◌, arith, length, map, refl, rules}
 use Rattle.std.proofs.lemmas.Bool.Decides.{nat_tests}
 use Rattle.std.proofs.lemmas.List.{length-map}
-use Rattle.fo_syntax.specs.Trees.{Factor, Product}
-use Rattle.fo_syntax.specs.View.{factor_view, product_of, product_tail_view, sum_tail_view, term_of, term_view}
-use Rattle.fo_syntax.specs.declared.raw.RawApp.{the_lemmas}
-use Rattle.fo_syntax.specs.declared.raw.RawFactor.{RawFactor}
-use Rattle.fo_syntax.specs.declared.raw.RawProduct.{out-RawProduct}
-use Rattle.fo_syntax.specs.declared.raw.RawTermTree.{RawTermTree, out-RawTermTree}
-use Rattle.fo_syntax.specs.declared.terminal.Adding.{Adding}
+use Rattle.grammar.specs.Trees.{Factor, Product}
+use Rattle.grammar.specs.View.{factor_view, product_of, product_tail_view, sum_tail_view, term_of, term_view}
+use Rattle.grammar.specs.declared.raw.RawApp.{the_lemmas}
+use Rattle.grammar.specs.declared.raw.RawFactor.{RawFactor}
+use Rattle.grammar.specs.declared.raw.RawProduct.{out-RawProduct}
+use Rattle.grammar.specs.declared.raw.RawTermTree.{RawTermTree, out-RawTermTree}
+use Rattle.grammar.specs.declared.terminal.Adding.{Adding}
 use Rattle.formula_names.specs.PartStandings.{is_lone}
 
 -- ---- a term by its factors

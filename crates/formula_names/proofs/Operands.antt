@@ -1,16 +1,16 @@
 -- The operands of chains: with numbers for words, and the uses in them.
 use Rattle.std.proofs.Common.{ℕ, List, Bool}
-use Rattle.fo_syntax.specs.Trees as raw
-use Rattle.fo_syntax.specs.declared.terminal.Adding.{Adding}
-use Rattle.reading_stages.specs.NamedTrees.{NamedFormula, NamedTerm}
-use Rattle.reading_stages.specs.Names.{Names}
-use Rattle.reading_stages.specs.Numbering.{named_or, named_and, named_unary, named_product, named_factor, named_term}
-use Rattle.reading_stages.specs.Numbering.{is_minus}
-use Rattle.reading_stages.specs.Scopes.{Text}
-use Rattle.reading_stages.specs.declared.standings.Standing.{Standing}
-use Rattle.reading_stages.specs.declared.standings.Standing.TheVariants.{Elsewhere}
-use Rattle.reading_stages.specs.Uses.{Context, Use, uses_in_or, uses_in_and, uses_in_unary, uses_in_product}
-use Rattle.reading_stages.specs.Uses.{uses_in_factor, uses_in_term}
+use Rattle.grammar.specs.Trees as raw
+use Rattle.grammar.specs.declared.terminal.Adding.{Adding}
+use Rattle.stage_definitions.specs.NamedTrees.{NamedFormula, NamedTerm}
+use Rattle.stage_definitions.specs.Names.{Names}
+use Rattle.stage_definitions.specs.Numbering.{named_or, named_and, named_unary, named_product, named_factor, named_term}
+use Rattle.stage_definitions.specs.Numbering.{is_minus}
+use Rattle.stage_definitions.specs.Scopes.{Text}
+use Rattle.stage_definitions.specs.declared.standings.Standing.{Standing}
+use Rattle.stage_definitions.specs.declared.standings.Standing.TheVariants.{Elsewhere}
+use Rattle.stage_definitions.specs.Uses.{Context, Use, uses_in_or, uses_in_and, uses_in_unary, uses_in_product}
+use Rattle.stage_definitions.specs.Uses.{uses_in_factor, uses_in_term}
 
 abbrev pub link_named : Names → List Text → ℕ × raw.Or → NamedFormula
 link_named names scope x = named_or names scope x.1

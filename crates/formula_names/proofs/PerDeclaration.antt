@@ -6,13 +6,13 @@ use Rattle.std.proofs.lemmas.List.{length-append}
 use Rattle.kb_logic.specs.declared.vocabularies.TypeDecl.{TypeDecl}
 use Rattle.kb_logic.specs.declared.vocabularies.Symbol.{Symbol}
 use Rattle.kb_text.specs.declared.fault.KbFault.{KbFault}
-use Rattle.fo_syntax.specs.declared.raw_blocks.RawDeclaration.{RawDeclaration}
-use Rattle.reading_stages.specs.FileView.{declaration_in}
-use Rattle.reading_stages.specs.Files.{Declaration, type_under, constructed_type, symbol}
-use Rattle.reading_stages.specs.Names.{Names}
-use Rattle.reading_stages.specs.Numbering.{types_in, symbols_in, type_places, symbol_places}
-use Rattle.reading_stages.specs.Uses.{Use, counted, position, parent_uses, position_uses, uses_in_declarations}
-use Rattle.reading_stages.specs.Uses.{parents_in}
+use Rattle.grammar.specs.declared.raw_blocks.RawDeclaration.{RawDeclaration}
+use Rattle.stage_definitions.specs.FileView.{declaration_in}
+use Rattle.stage_definitions.specs.Files.{Declaration, type_under, constructed_type, symbol}
+use Rattle.stage_definitions.specs.Names.{Names}
+use Rattle.stage_definitions.specs.Numbering.{types_in, symbols_in, type_places, symbol_places}
+use Rattle.stage_definitions.specs.Uses.{Use, counted, position, parent_uses, position_uses, uses_in_declarations}
+use Rattle.stage_definitions.specs.Uses.{parents_in}
 use Rattle.formula_names.specs.Tails.{type_count, symbol_count}
 use Rattle.formula_names.proofs.Declared.{front}
 

@@ -2,16 +2,16 @@
 use Rattle.std.proofs.Common.{◌≡◌, ◌<◌, ◌∙◌, ◌&&◌, ℕ, ◌+◌, Bool, true, false, not, nat_lt, if◌then◌else◌, List, []}
 use Rattle.std.proofs.Common.{◌∷◌, filter, length, map, refl, ap, sym, rules, arith}
 use Rattle.std.proofs.lemmas.Bool.Decides.{nat_tests}
-use Rattle.fo_syntax.specs.Trees.{Factor, Product}
-use Rattle.fo_syntax.specs.View.{factor_view, product_of, product_tail_view, product_view, sum_tail_view, term_of}
-use Rattle.fo_syntax.specs.View.{term_view}
-use Rattle.fo_syntax.specs.declared.raw.RawApp.{the_lemmas}
-use Rattle.fo_syntax.specs.declared.raw.RawProduct.{RawProduct, out-RawProduct}
-use Rattle.fo_syntax.specs.declared.raw.RawTermTree.{RawTermTree, out-RawTermTree}
-use Rattle.fo_syntax.specs.declared.terminal.Adding.{Adding}
-use Rattle.reading_stages.specs.Standings.{factors_in, in_product, in_sum, is_extremum_factor, is_extremum_term}
-use Rattle.reading_stages.specs.Standings.{is_scaled, is_signed_integer}
-use Rattle.reading_stages.specs.declared.standings.Standing.{Standing}
+use Rattle.grammar.specs.Trees.{Factor, Product}
+use Rattle.grammar.specs.View.{factor_view, product_of, product_tail_view, product_view, sum_tail_view, term_of}
+use Rattle.grammar.specs.View.{term_view}
+use Rattle.grammar.specs.declared.raw.RawApp.{the_lemmas}
+use Rattle.grammar.specs.declared.raw.RawProduct.{RawProduct, out-RawProduct}
+use Rattle.grammar.specs.declared.raw.RawTermTree.{RawTermTree, out-RawTermTree}
+use Rattle.grammar.specs.declared.terminal.Adding.{Adding}
+use Rattle.stage_definitions.specs.Standings.{factors_in, in_product, in_sum, is_extremum_factor, is_extremum_term}
+use Rattle.stage_definitions.specs.Standings.{is_scaled, is_signed_integer}
+use Rattle.stage_definitions.specs.declared.standings.Standing.{Standing}
 use Rattle.formula_names.specs.PartStandings.{factors_stand, is_lone, is_signed_alone, operands_stand}
 use Rattle.formula_names.proofs.LoneTerms.{first_factor, later_factors, later_products, seen_as}
 

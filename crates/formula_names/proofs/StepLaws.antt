@@ -6,10 +6,10 @@ use Rattle.std.specs.Prelude.{Result, Ok, Err, OnOk, IfOk}
 use Rattle.std.proofs.Math.Seq.{take-suc}
 use Rattle.std.proofs.lemmas.Grind.{flat_map-append}
 use Rattle.std.proofs.lemmas.List.{append_assoc, map-append}
-use Rattle.reading_stages.specs.Names.{Names}
-use Rattle.reading_stages.specs.NamesStage.{name_noted}
-use Rattle.reading_stages.specs.Scopes.{Text}
-use Rattle.reading_stages.specs.Uses.{Context, Use}
+use Rattle.stage_definitions.specs.Names.{Names}
+use Rattle.stage_definitions.specs.NamesStage.{name_noted}
+use Rattle.stage_definitions.specs.Scopes.{Text}
+use Rattle.stage_definitions.specs.Uses.{Context, Use}
 use Rattle.formula_names.specs.Steps.{context_of, names_known, IsStep}
 use Rattle.formula_names.specs.declared.resolver.Resolver.{Resolver}
 use Rattle.formula_names.proofs.ChainEnds.{noted_all, noted_twice}

@@ -1,11 +1,11 @@
 -- The operands of a formula after its first arrow.
 use Rattle.std.specs.Prelude.{List, []}
-use Rattle.fo_syntax.specs.Trees.{Formula, alone, linked}
-use Rattle.reading_stages.specs.Scopes.{Text}
-use Rattle.reading_stages.specs.Names.{Names}
-use Rattle.reading_stages.specs.NamedTrees.{NamedFormula}
-use Rattle.reading_stages.specs.Numbering.{named_links}
-use Rattle.reading_stages.specs.Uses.{Context, Use, uses_in_links}
+use Rattle.grammar.specs.Trees.{Formula, alone, linked}
+use Rattle.stage_definitions.specs.Scopes.{Text}
+use Rattle.stage_definitions.specs.Names.{Names}
+use Rattle.stage_definitions.specs.NamedTrees.{NamedFormula}
+use Rattle.stage_definitions.specs.Numbering.{named_links}
+use Rattle.stage_definitions.specs.Uses.{Context, Use, uses_in_links}
 
 -- with numbers for words
 abbrev pub later_operands : Names → List Text → Formula → List NamedFormula

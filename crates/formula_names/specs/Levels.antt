@@ -2,7 +2,7 @@
 use Rattle.std.specs.Prelude.{ℕ, ◌≡◌, ◌<◌, ◌^◌, List, map, length, take, slice_get, Option, None, Some}
 use Rattle.std.specs.Str.{bytes_eq}
 use Rattle.indexmap.specs.IndexMap.{get_by}
-use Rattle.reading_stages.specs.Scopes.{last_position}
+use Rattle.stage_definitions.specs.Scopes.{last_position}
 use Rattle.formula_names.specs.declared.scopes.Binding.{Binding}
 use Rattle.formula_names.specs.declared.scopes.Levels.{Levels}
 use Rattle.formula_names.specs.declared.scopes.Scope.TheInside.{Inside}

@@ -1,7 +1,7 @@
 -- A table as the names that it lists.
 use Rattle.std.specs.Prelude.{map}
-use Rattle.reading_stages.specs.Names as names
-use Rattle.reading_stages.specs.Names.{Names}
+use Rattle.stage_definitions.specs.Names as names
+use Rattle.stage_definitions.specs.Names.{Names}
 use Rattle.formula_names.specs.declared.tables.Meaning.{Meaning}
 use Rattle.formula_names.specs.declared.tables.Meaning.TheVariants.{Undeclared, Integers, Naturals, TypeName, Predicate}
 use Rattle.formula_names.specs.declared.tables.Meaning.TheVariants.{Function, Made, Variable}

@@ -1,8 +1,8 @@
 -- How the parts of a term stand, by one step, and terms that are one factor.
 use Rattle.std.specs.Prelude.{Bool, true, false}
-use Rattle.fo_syntax.specs.Trees.{Term, product, sum, Product, factor, times}
-use Rattle.reading_stages.specs.declared.standings.Standing.{Standing}
-use Rattle.reading_stages.specs.Standings.{in_product, in_sum, is_signed_integer}
+use Rattle.grammar.specs.Trees.{Term, product, sum, Product, factor, times}
+use Rattle.stage_definitions.specs.declared.standings.Standing.{Standing}
+use Rattle.stage_definitions.specs.Standings.{in_product, in_sum, is_signed_integer}
 
 -- the operands of a term that stands so
 abbrev pub operands_stand : Standing → Term → Standing

@@ -1,13 +1,13 @@
 -- What a step of the walk over a formula does.
 use Rattle.std.specs.Prelude.{◌≡◌, List, fold, Result, IfOk}
-use Rattle.reading_stages.specs.NamedTrees as tree
-use Rattle.reading_stages.specs.NamedViews.{formula_view, term_view}
-use Rattle.reading_stages.specs.Names.{Names}
-use Rattle.reading_stages.specs.NamesStage.{name_noted}
-use Rattle.reading_stages.specs.Scopes.{Text}
-use Rattle.reading_stages.specs.Uses.{Context, Use}
-use Rattle.reading_stages.specs.declared.named.NamedFormula.{NamedFormula}
-use Rattle.reading_stages.specs.declared.named.NamedTerm.{NamedTerm}
+use Rattle.stage_definitions.specs.NamedTrees as tree
+use Rattle.stage_definitions.specs.NamedViews.{formula_view, term_view}
+use Rattle.stage_definitions.specs.Names.{Names}
+use Rattle.stage_definitions.specs.NamesStage.{name_noted}
+use Rattle.stage_definitions.specs.Scopes.{Text}
+use Rattle.stage_definitions.specs.Uses.{Context, Use}
+use Rattle.stage_definitions.specs.declared.named.NamedFormula.{NamedFormula}
+use Rattle.stage_definitions.specs.declared.named.NamedTerm.{NamedTerm}
 use Rattle.formula_names.specs.Meanings.{names_in}
 use Rattle.formula_names.specs.declared.resolver.Resolver.{Resolver}
 

@@ -1,9 +1,9 @@
 -- The further items of raw lists.
 use Rattle.std.specs.Prelude.{ℕ}
-use Rattle.reading_stages.specs.Files.{Declaration, type_under, constructed_type, symbol}
-use Rattle.fo_syntax.specs.Trees.{Var}
-use Rattle.fo_syntax.specs.View.{var_view}
-use Rattle.fo_syntax.specs.declared.raw.RawVarTail.{RawVarTail}
+use Rattle.stage_definitions.specs.Files.{Declaration, type_under, constructed_type, symbol}
+use Rattle.grammar.specs.Trees.{Var}
+use Rattle.grammar.specs.View.{var_view}
+use Rattle.grammar.specs.declared.raw.RawVarTail.{RawVarTail}
 
 abbrev pub tail_var : RawVarTail → Var
 tail_var v = var_view v.var

@@ -1,12 +1,12 @@
 //! Chains of arrows, grouped.
 ghost use Rattle.std.specs.Prelude.{◌≡◌, IfOk, map};
-ghost use Rattle.reading_stages.specs.NamedTrees as named;
-ghost use Rattle.reading_stages.specs.Numbering as numbers;
-ghost use Rattle.reading_stages.specs.NamedViews.{formula_view};
+ghost use Rattle.stage_definitions.specs.NamedTrees as named;
+ghost use Rattle.stage_definitions.specs.Numbering as numbers;
+ghost use Rattle.stage_definitions.specs.NamedViews.{formula_view};
 
-use fo_syntax::Arrow;
+use grammar::Arrow;
 use kb_logic::Memory;
-use reading_stages::NamedFormula;
+use stage_definitions::NamedFormula;
 use std::alloc::Global;
 
 fn implication(

@@ -1,21 +1,21 @@
 //! Lists of variables.
 ghost use Rattle.std.specs.Prelude.{◌≤◌, [], ◌∷◌, ◌++◌, drop, length, map, IfOk, OnOk};
-ghost use Rattle.fo_syntax.specs.View as raw;
-ghost use Rattle.reading_stages.specs.NamedViews.{var_view};
-ghost use Rattle.reading_stages.specs.Numbering.{named_var, named_vars};
-ghost use Rattle.reading_stages.specs.Uses.{bound, position_uses, uses_of_vars, vars_in, var_name, var_text, var_type};
-ghost use Rattle.reading_stages.specs.Uses.{within};
+ghost use Rattle.grammar.specs.View as raw;
+ghost use Rattle.stage_definitions.specs.NamedViews.{var_view};
+ghost use Rattle.stage_definitions.specs.Numbering.{named_var, named_vars};
+ghost use Rattle.stage_definitions.specs.Uses.{bound, position_uses, uses_of_vars, vars_in, var_name, var_text, var_type};
+ghost use Rattle.stage_definitions.specs.Uses.{within};
 ghost use Rattle.formula_names.specs.Steps.{IsStep, names_known};
 ghost use Rattle.formula_names.specs.Tails.{tail_var};
 
 use crate::resolver::Resolver;
 use crate::scopes::is_bound_from;
 use crate::uses::position;
-use fo_syntax::{RawVar, RawVarTail, RawVars};
+use grammar::{RawVar, RawVarTail, RawVars};
 use kb_logic::{Memory, Name};
 use kb_text::K;
-use reading_stages::NamedVar;
 use sqlite_items::Items;
+use stage_definitions::NamedVar;
 
 impl<'r, 'a> Resolver<'r, 'a> {
     fn type_of(&mut self, var: &'a RawVar) -> Option<u32>

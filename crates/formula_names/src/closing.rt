@@ -1,19 +1,19 @@
 //! Nodes made of what was read inside them, after which the variables that they bind are out of scope again. They stand
 //! outside the cycle of `formulas`, so that its functions give up fewer trees where memory runs out.
 ghost use Rattle.std.specs.Prelude.{◌≡◌, [], map, take, true, IfOk};
-ghost use Rattle.fo_syntax.specs.View as raw;
-ghost use Rattle.reading_stages.specs.NamedTrees as tree;
-ghost use Rattle.reading_stages.specs.Numbering as numbers;
-ghost use Rattle.reading_stages.specs.NamedViews.{formula_view, term_view, var_view};
+ghost use Rattle.grammar.specs.View as raw;
+ghost use Rattle.stage_definitions.specs.NamedTrees as tree;
+ghost use Rattle.stage_definitions.specs.Numbering as numbers;
+ghost use Rattle.stage_definitions.specs.NamedViews.{formula_view, term_view, var_view};
 ghost use Rattle.formula_names.specs.Steps.{IsStep};
 
 use crate::nodes::{signed, summed};
 use crate::resolver::Resolver;
 use crate::words::{aggregated, quantified};
-use fo_syntax::RawNumber;
+use grammar::RawNumber;
 use kb_logic::{AggKind, Memory};
-use reading_stages::{NamedFormula, NamedTerm, NamedVar};
 use sqlite_items::Items;
+use stage_definitions::{NamedFormula, NamedTerm, NamedVar};
 use std::alloc::Global;
 
 pub fn negation(alloc: Global, inner: NamedFormula) -> Result<NamedFormula, Memory>

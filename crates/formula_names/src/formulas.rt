@@ -1,15 +1,15 @@
 //! Formulas and terms with numbers for words.
 ghost use Rattle.std.specs.Prelude.{◌≡◌, [], ◌∷◌, ◌++◌, fold, map, IfOk, OnOk};
-ghost use Rattle.fo_syntax.specs.View as seen;
-ghost use Rattle.reading_stages.specs.NamesStage.{name_noted};
-ghost use Rattle.reading_stages.specs.declared.standings.Standing.TheVariants.{Side};
-ghost use Rattle.reading_stages.specs.NamedTrees.{terms_of};
-ghost use Rattle.reading_stages.specs.NamedViews.{formula_view, term_view, var_view};
-ghost use Rattle.reading_stages.specs.Numbering.{named_formula, named_or, named_and, named_unary, named_prim};
-ghost use Rattle.reading_stages.specs.Numbering.{named_term, named_product, named_factor, named_arguments, named_vars};
-ghost use Rattle.reading_stages.specs.Uses.{an_aggregate, in_scope, inside, uses_in, uses_in_or, uses_in_and};
-ghost use Rattle.reading_stages.specs.Uses.{uses_in_unary, uses_in_prim, uses_in_term, uses_in_product};
-ghost use Rattle.reading_stages.specs.Uses.{uses_in_factor, uses_in_arguments, uses_of_vars, vars_in, within};
+ghost use Rattle.grammar.specs.View as seen;
+ghost use Rattle.stage_definitions.specs.NamesStage.{name_noted};
+ghost use Rattle.stage_definitions.specs.declared.standings.Standing.TheVariants.{Side};
+ghost use Rattle.stage_definitions.specs.NamedTrees.{terms_of};
+ghost use Rattle.stage_definitions.specs.NamedViews.{formula_view, term_view, var_view};
+ghost use Rattle.stage_definitions.specs.Numbering.{named_formula, named_or, named_and, named_unary, named_prim};
+ghost use Rattle.stage_definitions.specs.Numbering.{named_term, named_product, named_factor, named_arguments, named_vars};
+ghost use Rattle.stage_definitions.specs.Uses.{an_aggregate, in_scope, inside, uses_in, uses_in_or, uses_in_and};
+ghost use Rattle.stage_definitions.specs.Uses.{uses_in_unary, uses_in_prim, uses_in_term, uses_in_product};
+ghost use Rattle.stage_definitions.specs.Uses.{uses_in_factor, uses_in_arguments, uses_of_vars, vars_in, within};
 ghost use Rattle.formula_names.specs.LaterLinks.{later_operands, later_uses};
 ghost use Rattle.formula_names.specs.Meanings.{names_in};
 ghost use Rattle.formula_names.specs.Steps.{context_of, names_known, IsStep, Resolves, ResolvesFormula};
@@ -23,13 +23,13 @@ use crate::scopes::Scope;
 use crate::standings::{facing, factors_stand, kind_of, operands_stand, scaled};
 use crate::tables::Table;
 use crate::words::{app_count, app_name, application, comparison_of, is_minus, note_aggregate};
-use fo_syntax::{
+use grammar::{
     RawAnd, RawApp, RawFactor, RawFormula, RawOpening, RawOr, RawPrim, RawProduct, RawTermTree,
     RawUnary,
 };
 use kb_logic::{AggKind, Memory};
-use reading_stages::{Earliest, NamedFormula, NamedNode, NamedTerm, NamedVar, Standing};
 use sqlite_items::Items;
+use stage_definitions::{Earliest, NamedFormula, NamedNode, NamedTerm, NamedVar, Standing};
 use std::alloc::Global;
 
 /// A formula in no variable's scope, with numbers for words.

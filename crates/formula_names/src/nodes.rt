@@ -1,9 +1,9 @@
 //! Nodes at their places, and chains of operands as one node.
 ghost use Rattle.std.specs.Prelude.{◌≡◌, map};
-ghost use Rattle.reading_stages.specs.NamedTrees as tree;
-ghost use Rattle.reading_stages.specs.NamedViews.{formula_view, node_view, signed_view, term_view};
+ghost use Rattle.stage_definitions.specs.NamedTrees as tree;
+ghost use Rattle.stage_definitions.specs.NamedViews.{formula_view, node_view, signed_view, term_view};
 
-use reading_stages::{NamedFormula, NamedNode, NamedSigned, NamedTerm};
+use stage_definitions::{NamedFormula, NamedNode, NamedSigned, NamedTerm};
 
 pub fn any_of(operands: Vec<NamedFormula>) -> NamedFormula
     ensures { formula_view result ≡ tree.disjunction (tree.formulas_of (map formula_view operands.items)) }

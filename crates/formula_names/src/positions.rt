@@ -1,18 +1,18 @@
 //! The types of a symbol's arguments and of its value.
 ghost use Rattle.std.specs.Prelude.{◌≡◌, ◌++◌, ◌∷◌, [], fold, map, OnOk, IfOk};
 ghost use Rattle.std.specs.Option.{option_map};
-ghost use Rattle.reading_stages.specs.FileView.{argument_names, names_among, result_name, tail_name, isa_name};
-ghost use Rattle.reading_stages.specs.NamesStage.{name_noted};
-ghost use Rattle.reading_stages.specs.Numbering as number;
-ghost use Rattle.reading_stages.specs.Uses as use_of;
-ghost use Rattle.fo_syntax.specs.View.{name_view};
+ghost use Rattle.stage_definitions.specs.FileView.{argument_names, names_among, result_name, tail_name, isa_name};
+ghost use Rattle.stage_definitions.specs.NamesStage.{name_noted};
+ghost use Rattle.stage_definitions.specs.Numbering as number;
+ghost use Rattle.stage_definitions.specs.Uses as use_of;
+ghost use Rattle.grammar.specs.View.{name_view};
 ghost use Rattle.formula_names.specs.Meanings.{names_in};
 
 use crate::tables::Table;
 use crate::uses::position;
-use fo_syntax::{RawNameTail, RawPositions, RawResult};
+use grammar::{RawNameTail, RawPositions, RawResult};
 use kb_logic::{Memory, NumberList};
-use reading_stages::Earliest;
+use stage_definitions::Earliest;
 use std::alloc::Global;
 
 fn more_positions<'a>(

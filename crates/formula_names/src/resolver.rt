@@ -3,7 +3,7 @@ ghost use Rattle.std.specs.Prelude.{◌≡◌, []};
 
 use crate::scopes::Scope;
 use crate::tables::Table;
-use reading_stages::Earliest;
+use stage_definitions::Earliest;
 use std::alloc::Global;
 
 /// What is known before a walk: the names that are declared, and those that the definition round it defines.

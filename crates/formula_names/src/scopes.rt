@@ -1,6 +1,6 @@
 //! The variables in scope, outermost first.
 ghost use Rattle.std.specs.Prelude.{◌≡◌, [], ◌∷◌, ◌++◌, ◌-◌, IfOk, OnOk, length, take, drop, is_some};
-ghost use Rattle.reading_stages.specs.Scopes.{last_position};
+ghost use Rattle.stage_definitions.specs.Scopes.{last_position};
 
 use indexmap::IndexMap;
 use kb_logic::Memory;

@@ -1,12 +1,12 @@
 //! Which aggregates may stand in a term, and how the parts of a term stand.
 ghost use Rattle.std.specs.Prelude.{◌≡◌, ◌≤◌, filter, length, map, not};
-ghost use Rattle.fo_syntax.specs.View as seen;
-ghost use Rattle.reading_stages.specs.Standings as stand;
+ghost use Rattle.grammar.specs.View as seen;
+ghost use Rattle.stage_definitions.specs.Standings as stand;
 ghost use Rattle.formula_names.specs.PartStandings as part;
 
-use fo_syntax::{Aggregation, RawFactor, RawProduct, RawProductTail, RawTermTree};
+use grammar::{Aggregation, RawFactor, RawProduct, RawProductTail, RawTermTree};
 use kb_logic::AggKind;
-use reading_stages::Standing;
+use stage_definitions::Standing;
 
 pub fn kind_of(how: Aggregation) -> AggKind
     ensures { result ≡ stand.kind_of how }

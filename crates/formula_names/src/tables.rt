@@ -1,6 +1,6 @@
 //! What words are declared as.
 ghost use Rattle.std.specs.Prelude.{◌≡◌, OnOk, is_some};
-ghost use Rattle.reading_stages.specs.Names.{meaning_in, meaning_of, declared};
+ghost use Rattle.stage_definitions.specs.Names.{meaning_in, meaning_of, declared};
 ghost use Rattle.formula_names.specs.Meanings.{meaning_view, names_in};
 
 use indexmap::IndexMap;

@@ -1,23 +1,23 @@
 //! One use of a word: what it means there, and whether it is refused.
 ghost use Rattle.std.specs.Prelude.{◌≡◌, ◌&&◌, [], ◌∷◌};
-ghost use Rattle.reading_stages.specs.Names.{meaning_at, meaning_of};
-ghost use Rattle.reading_stages.specs.NamesStage as stage;
-ghost use Rattle.reading_stages.specs.NamesStage.{name_noted};
-ghost use Rattle.reading_stages.specs.Numbering as numbers;
-ghost use Rattle.reading_stages.specs.Uses as use_of;
-ghost use Rattle.fo_syntax.specs.View.{name_view};
-ghost use Rattle.reading_stages.specs.Earliest.{noted_if};
+ghost use Rattle.stage_definitions.specs.Names.{meaning_at, meaning_of};
+ghost use Rattle.stage_definitions.specs.NamesStage as stage;
+ghost use Rattle.stage_definitions.specs.NamesStage.{name_noted};
+ghost use Rattle.stage_definitions.specs.Numbering as numbers;
+ghost use Rattle.stage_definitions.specs.Uses as use_of;
+ghost use Rattle.grammar.specs.View.{name_view};
+ghost use Rattle.stage_definitions.specs.Earliest.{noted_if};
 ghost use Rattle.kb_text.specs.declared.fault.K.TheVariants.{UnknownName, WrongArity, Unsupported};
 ghost use Rattle.formula_names.specs.Meanings.{meaning_view, names_in};
 ghost use Rattle.formula_names.specs.Steps.{IsStep, context_of, names_known};
-ghost use Rattle.reading_stages.specs.Scopes.{is_among};
+ghost use Rattle.stage_definitions.specs.Scopes.{is_among};
 
 use crate::resolver::Resolver;
 use crate::scopes::Scope;
 use crate::tables::{Meaning, Table, declared_meaning};
-use fo_syntax::RawName;
+use grammar::RawName;
 use kb_text::K;
-use reading_stages::Earliest;
+use stage_definitions::Earliest;
 
 fn is_undeclared(meaning: Meaning) -> bool
     ensures { result ≡ stage.is_undeclared (meaning_view meaning) }

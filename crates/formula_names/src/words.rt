@@ -1,22 +1,22 @@
 //! What single tokens and nodes become.
 ghost use Rattle.std.specs.Prelude.{◌≡◌, IfOk, map};
-ghost use Rattle.reading_stages.specs.NamesStage.{name_noted};
-ghost use Rattle.reading_stages.specs.NamedTrees.{aggregate, at, terms_of};
-ghost use Rattle.reading_stages.specs.Names.{Names};
-ghost use Rattle.reading_stages.specs.Numbering as numbers;
-ghost use Rattle.reading_stages.specs.Uses as use_of;
-ghost use Rattle.fo_syntax.specs.View as raw;
+ghost use Rattle.stage_definitions.specs.NamesStage.{name_noted};
+ghost use Rattle.stage_definitions.specs.NamedTrees.{aggregate, at, terms_of};
+ghost use Rattle.stage_definitions.specs.Names.{Names};
+ghost use Rattle.stage_definitions.specs.Numbering as numbers;
+ghost use Rattle.stage_definitions.specs.Uses as use_of;
+ghost use Rattle.grammar.specs.View as raw;
 ghost use Rattle.formula_names.specs.Meanings.{meaning_view};
-ghost use Rattle.reading_stages.specs.NamedViews.{formula_view, node_view, term_view, var_view};
+ghost use Rattle.stage_definitions.specs.NamedViews.{formula_view, node_view, term_view, var_view};
 
 use crate::standings::may_stand;
 use crate::tables::Meaning;
 use crate::uses::within_count;
-use fo_syntax::{Adding, Comparison, RawApp, RawName, RawNumber, RawTerms};
+use grammar::{Adding, Comparison, RawApp, RawName, RawNumber, RawTerms};
 use kb_logic::{AggKind, Cmp, Memory};
 use kb_text::K;
-use reading_stages::{Earliest, NamedFormula, NamedNode, NamedTerm, NamedVar, Standing};
 use sqlite_items::Items;
+use stage_definitions::{Earliest, NamedFormula, NamedNode, NamedTerm, NamedVar, Standing};
 use std::alloc::Global;
 
 /// The word of an application.

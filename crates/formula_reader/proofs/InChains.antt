@@ -1,26 +1,26 @@
 -- Where a chain of operands is stuck, and what it is.
 use Rattle.std.proofs.Common.{◌≡◌, ℕ, List, [], ◌∷◌, ◌++◌, Bool, true, false, Some, None, Result, Ok, Err, Bor, refl}
 use Rattle.std.proofs.Common.{sym, ap, subst, ◌∙◌}
-use Rattle.fo_syntax.specs.declared.stops.ReadError.{ReadError}
-use Rattle.fo_syntax.specs.declared.terminal.Item.{Item}
-use Rattle.fo_syntax.specs.declared.terminal.Arrow.{Arrow}
-use Rattle.fo_syntax.specs.declared.terminal.Arrow.TheVariants as arrow
-use Rattle.fo_syntax.specs.declared.terminal.Terminal.TheVariants as t
-use Rattle.fo_syntax.specs.declared.raw.RawAnd.{RawAnd}
-use Rattle.fo_syntax.specs.declared.raw.RawOr.{RawOr}
-use Rattle.fo_syntax.specs.declared.raw.RawFormula.{RawFormula}
-use Rattle.fo_syntax.specs.Terminals.{Tok, tok_at, mark, sign}
-use Rattle.fo_syntax.specs.Trees.{Formula, alone, linked, Links, last, link, Or, one, or, And, single, and, Unary, not}
-use Rattle.fo_syntax.specs.Trees.{every, some, prim, Prim, group, truth, atom, compare}
-use Rattle.fo_syntax.specs.Spelling.{put_formula, put_links, put_or, put_and, put_unary, put_prim}
-use Rattle.fo_syntax.specs.Fine.{closed_unary, closed_and, closed_or, FineFormula, FineLinks, FineOr, FineAnd}
-use Rattle.fo_syntax.specs.Fine.{FineUnary, FinePrim}
+use Rattle.grammar.specs.declared.stops.ReadError.{ReadError}
+use Rattle.grammar.specs.declared.terminal.Item.{Item}
+use Rattle.grammar.specs.declared.terminal.Arrow.{Arrow}
+use Rattle.grammar.specs.declared.terminal.Arrow.TheVariants as arrow
+use Rattle.grammar.specs.declared.terminal.Terminal.TheVariants as t
+use Rattle.grammar.specs.declared.raw.RawAnd.{RawAnd}
+use Rattle.grammar.specs.declared.raw.RawOr.{RawOr}
+use Rattle.grammar.specs.declared.raw.RawFormula.{RawFormula}
+use Rattle.grammar.specs.Terminals.{Tok, tok_at, mark, sign}
+use Rattle.grammar.specs.Trees.{Formula, alone, linked, Links, last, link, Or, one, or, And, single, and, Unary, not}
+use Rattle.grammar.specs.Trees.{every, some, prim, Prim, group, truth, atom, compare}
+use Rattle.grammar.specs.Spelling.{put_formula, put_links, put_or, put_and, put_unary, put_prim}
+use Rattle.grammar.specs.Fine.{closed_unary, closed_and, closed_or, FineFormula, FineLinks, FineOr, FineAnd}
+use Rattle.grammar.specs.Fine.{FineUnary, FinePrim}
 use Rattle.token_reader.specs.Sorts.{app_formula, app_or, app_and, app_unary, app_prim}
 use Rattle.token_reader.specs.Machine.{need, Chain, unsettled, fresh, chained, Mode, in_formula, Sort, either, settled}
 use Rattle.token_reader.specs.Machine.{connects, links_on, link_on, on, run}
 use Rattle.token_reader.specs.Modes.{formula_sort, mode_formula, mode_links, mode_or, mode_and, mode_unary, mode_prim}
 use Rattle.token_reader.specs.Modes.{sort_formula, sort_links, sort_or, sort_and, sort_unary, sort_prim}
-use Rattle.fo_syntax.specs.View.{links_of, formula_of, or_of, and_of}
+use Rattle.grammar.specs.View.{links_of, formula_of, or_of, and_of}
 use Rattle.token_reader.specs.Signs.{next, No}
 use Rattle.token_reader.specs.Parts.{EndsFactor, EndsPrim, NoArrows, Connects, NoConnective}
 use Rattle.token_reader.specs.Parts.{Halts, unaries, ands, ors, Tight, Behind, Entry, sentence, bracket, entry}

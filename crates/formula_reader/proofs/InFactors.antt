@@ -1,18 +1,18 @@
 -- Where a part of a factor is stuck.
 use Rattle.std.proofs.Common.{◌≡◌, ℕ, List, [], ◌∷◌, ◌++◌, true, Option, Some, None, Result, Bor, refl, sym, ap, ◌∙◌}
-use Rattle.fo_syntax.specs.declared.stops.ReadError.{ReadError}
-use Rattle.fo_syntax.specs.declared.stops.ReadError.TheVariants.{Memory, Stuck}
-use Rattle.fo_syntax.specs.declared.terminal.Item.{Item}
-use Rattle.fo_syntax.specs.declared.raw.RawFactor.{RawFactor}
-use Rattle.fo_syntax.specs.declared.terminal.Terminal.{Terminal}
-use Rattle.fo_syntax.specs.declared.terminal.Terminal.TheVariants as t
-use Rattle.fo_syntax.specs.declared.terminal.Adding.TheVariants.{Plus, Minus}
-use Rattle.fo_syntax.specs.declared.terminal.Aggregation.{Aggregation}
-use Rattle.fo_syntax.specs.Terminals.{Symbol, Tok, tok, tok_at, mark, sign, place_of}
-use Rattle.fo_syntax.specs.Trees.{name, Vars, Formula, alone, one, single, prim, truth, Term, product, Factor, integer}
-use Rattle.fo_syntax.specs.Trees.{value, brackets, negative, count, aggregate, App, constant, empty, apply, factor}
-use Rattle.fo_syntax.specs.Spelling.{put_formula, put_term, put_factor, put_app}
-use Rattle.fo_syntax.specs.Fine.{FineFormula, FineTerm, FineFactor, FineApp}
+use Rattle.grammar.specs.declared.stops.ReadError.{ReadError}
+use Rattle.grammar.specs.declared.stops.ReadError.TheVariants.{Memory, Stuck}
+use Rattle.grammar.specs.declared.terminal.Item.{Item}
+use Rattle.grammar.specs.declared.raw.RawFactor.{RawFactor}
+use Rattle.grammar.specs.declared.terminal.Terminal.{Terminal}
+use Rattle.grammar.specs.declared.terminal.Terminal.TheVariants as t
+use Rattle.grammar.specs.declared.terminal.Adding.TheVariants.{Plus, Minus}
+use Rattle.grammar.specs.declared.terminal.Aggregation.{Aggregation}
+use Rattle.grammar.specs.Terminals.{Symbol, Tok, tok, tok_at, mark, sign, place_of}
+use Rattle.grammar.specs.Trees.{name, Vars, Formula, alone, one, single, prim, truth, Term, product, Factor, integer}
+use Rattle.grammar.specs.Trees.{value, brackets, negative, count, aggregate, App, constant, empty, apply, factor}
+use Rattle.grammar.specs.Spelling.{put_formula, put_term, put_factor, put_app}
+use Rattle.grammar.specs.Fine.{FineFormula, FineTerm, FineFactor, FineApp}
 use Rattle.token_reader.specs.Machine.{Frame, want, done, paren, close_brace, fold_colon, colon, brace, vars_first}
 use Rattle.token_reader.specs.Machine.{Mode, in_term, Sort, formula, term, fresh, on, stuck, run, advance, shut, shuts}
 use Rattle.token_reader.specs.Machine.{ended, behind_operand, finish, need}

@@ -1,25 +1,25 @@
 -- Where an operand of a formula is stuck, and what it is.
 use Rattle.std.proofs.Common.{◌≡◌, ℕ, List, [], ◌∷◌, ◌++◌, Bool, true, false, Some, None, Result, Bor, refl, sym, ap}
 use Rattle.std.proofs.Common.{◌∙◌}
-use Rattle.fo_syntax.specs.declared.stops.ReadError.{ReadError}
-use Rattle.fo_syntax.specs.declared.stops.ReadError.TheVariants.{Memory, Stuck}
+use Rattle.grammar.specs.declared.stops.ReadError.{ReadError}
+use Rattle.grammar.specs.declared.stops.ReadError.TheVariants.{Memory, Stuck}
 use Rattle.formula_reader.specs.declared.kinds.Pair.{Pair}
 use Rattle.formula_reader.specs.declared.kinds.Operand.{Operand}
 use Rattle.formula_reader.specs.declared.kinds.Content.{Content}
 use Rattle.formula_reader.specs.declared.kinds.Content.TheVariants as content
-use Rattle.fo_syntax.specs.declared.terminal.Item.{Item}
-use Rattle.fo_syntax.specs.declared.terminal.Terminal.{Terminal}
-use Rattle.fo_syntax.specs.declared.terminal.Terminal.TheVariants as t
-use Rattle.fo_syntax.specs.declared.terminal.Comparison.{Comparison}
-use Rattle.fo_syntax.specs.declared.terminal.Comparison.TheVariants.{Equal}
-use Rattle.fo_syntax.specs.Terminals.{Symbol, Tok, tok, tok_at, mark, word, sign, place_of}
-use Rattle.fo_syntax.specs.Trees.{Name, name, Number, Vars, Formula, alone, one, single, Unary, not, every, some, prim}
-use Rattle.fo_syntax.specs.Trees.{Prim, group, truth, atom, compare, Term, product, sum, Factor, factor, times, integer}
-use Rattle.fo_syntax.specs.Trees.{value, brackets, negative, count, aggregate, App, constant, empty, apply}
-use Rattle.fo_syntax.specs.Spelling.{put_name, put_number, put_vars, put_formula, put_unary, put_prim, put_term}
-use Rattle.fo_syntax.specs.Spelling.{put_factor, put_app}
-use Rattle.fo_syntax.specs.Fine.{closed_unary, FineNumber, FineFormula, FineUnary, FinePrim, FineTerm, FineFactor}
-use Rattle.fo_syntax.specs.Fine.{FineApp}
+use Rattle.grammar.specs.declared.terminal.Item.{Item}
+use Rattle.grammar.specs.declared.terminal.Terminal.{Terminal}
+use Rattle.grammar.specs.declared.terminal.Terminal.TheVariants as t
+use Rattle.grammar.specs.declared.terminal.Comparison.{Comparison}
+use Rattle.grammar.specs.declared.terminal.Comparison.TheVariants.{Equal}
+use Rattle.grammar.specs.Terminals.{Symbol, Tok, tok, tok_at, mark, word, sign, place_of}
+use Rattle.grammar.specs.Trees.{Name, name, Number, Vars, Formula, alone, one, single, Unary, not, every, some, prim}
+use Rattle.grammar.specs.Trees.{Prim, group, truth, atom, compare, Term, product, sum, Factor, factor, times, integer}
+use Rattle.grammar.specs.Trees.{value, brackets, negative, count, aggregate, App, constant, empty, apply}
+use Rattle.grammar.specs.Spelling.{put_name, put_number, put_vars, put_formula, put_unary, put_prim, put_term}
+use Rattle.grammar.specs.Spelling.{put_factor, put_app}
+use Rattle.grammar.specs.Fine.{closed_unary, FineNumber, FineFormula, FineUnary, FinePrim, FineTerm, FineFactor}
+use Rattle.grammar.specs.Fine.{FineApp}
 use Rattle.token_reader.specs.Sorts.{app_formula, app_unary, app_prim, app_term, app_factor}
 use Rattle.token_reader.specs.Machine as m
 use Rattle.token_reader.specs.Machine.{Frame, need, want, done, paren, colon, vars_first, number_first, Chain}
@@ -27,7 +27,7 @@ use Rattle.token_reader.specs.Machine.{unsettled, fresh, chained, Mode, in_formu
 use Rattle.token_reader.specs.Machine.{settled, ended, shuts, on, stuck, run}
 use Rattle.token_reader.specs.Modes.{term_sort, formula_sort, mode_formula, sort_formula, mode_unary, sort_unary}
 use Rattle.token_reader.specs.Modes.{mode_prim, sort_prim}
-use Rattle.fo_syntax.specs.View.{formula_view, term_view, app_view}
+use Rattle.grammar.specs.View.{formula_view, term_view, app_view}
 use Rattle.token_reader.specs.Parts.{EndsFactor, EndsTerm, EndsPrim, NoCompare, TermsOnly, Halts, unaries, Tight}
 use Rattle.token_reader.specs.Parts.{Behind, needed, at_factor, at_either, at_operand, at_unary, at_bracket}
 use Rattle.token_reader.specs.Parts.{at_sentence, at_vars, at_number, Fails}

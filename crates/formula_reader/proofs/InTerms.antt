@@ -1,20 +1,20 @@
 -- Where a part of a term is stuck.
 use Rattle.std.proofs.Common.{◌≡◌, ℕ, List, [], ◌∷◌, ◌++◌, Bool, false, Result, Ok, Err, Bor, refl, sym, ap, ◌∙◌}
-use Rattle.fo_syntax.specs.declared.stops.ReadError.{ReadError}
-use Rattle.fo_syntax.specs.declared.terminal.Item.{Item}
-use Rattle.fo_syntax.specs.declared.raw.RawTermTree.{RawTermTree}
-use Rattle.fo_syntax.specs.declared.terminal.Terminal.TheVariants as t
-use Rattle.fo_syntax.specs.declared.terminal.Adding.{Adding}
-use Rattle.fo_syntax.specs.Terminals.{Tok, tok_at, mark, sign}
-use Rattle.fo_syntax.specs.Trees.{Name, name, var, untyped, Term, product, sum, Product, factor, times, Factor}
-use Rattle.fo_syntax.specs.Trees.{brackets, apply, Terms, final, then}
-use Rattle.fo_syntax.specs.Spelling.{put_name, put_term, put_product, put_factor, put_app, put_terms}
-use Rattle.fo_syntax.specs.Fine.{FineTerm, FineProduct, FineFactor, FineApp, FineTerms}
+use Rattle.grammar.specs.declared.stops.ReadError.{ReadError}
+use Rattle.grammar.specs.declared.terminal.Item.{Item}
+use Rattle.grammar.specs.declared.raw.RawTermTree.{RawTermTree}
+use Rattle.grammar.specs.declared.terminal.Terminal.TheVariants as t
+use Rattle.grammar.specs.declared.terminal.Adding.{Adding}
+use Rattle.grammar.specs.Terminals.{Tok, tok_at, mark, sign}
+use Rattle.grammar.specs.Trees.{Name, name, var, untyped, Term, product, sum, Product, factor, times, Factor}
+use Rattle.grammar.specs.Trees.{brackets, apply, Terms, final, then}
+use Rattle.grammar.specs.Spelling.{put_name, put_term, put_product, put_factor, put_app, put_terms}
+use Rattle.grammar.specs.Fine.{FineTerm, FineProduct, FineFactor, FineApp, FineTerms}
 use Rattle.token_reader.specs.Sorts.{app_term, app_product}
 use Rattle.token_reader.specs.Machine.{Frame, want, done, named, args, paren, close_brace, colon, brace, vars_first}
 use Rattle.token_reader.specs.Machine.{Mode, in_term, Sort, term, on, stuck, run}
 use Rattle.token_reader.specs.Modes.{term_sort}
-use Rattle.fo_syntax.specs.View.{terms_of, product_of, term_of}
+use Rattle.grammar.specs.View.{terms_of, product_of, term_of}
 use Rattle.token_reader.specs.Parts.{EndsFactor, EndsTerm, NoAdd, Position, wanted, needed}
 use Rattle.token_reader.specs.Signs.{next, No, Is, Absent, SignRead}
 use Rattle.token_reader.specs.Parts.{at_position, mode_at, sort_at, at_factor, at_either, at_vars, Fails}

@@ -6,10 +6,10 @@ use Rattle.kb_text.specs.declared.fault.KbFault.{KbFault}
 use Rattle.kb_text.specs.Depth.{outermost}
 use Rattle.kb_text.specs.Tokens.{Lexeme, TokensFrom}
 use Rattle.kb_text.proofs.Exact.{only}
-use Rattle.fo_syntax.specs.Terminals.{Tok, place_of}
-use Rattle.fo_syntax.specs.Texts.{SameHead, ParsesTo, FirstStuck}
-use Rattle.fo_syntax.specs.Items.{IsTokens, tok_of}
-use Rattle.fo_syntax.specs.Whole.{IsStuck, Reads, parsed, unscanned, ungrammatical}
+use Rattle.grammar.specs.Terminals.{Tok, place_of}
+use Rattle.grammar.specs.Texts.{SameHead, ParsesTo, FirstStuck}
+use Rattle.grammar.specs.Items.{IsTokens, tok_of}
+use Rattle.grammar.specs.Whole.{IsStuck, Reads, parsed, unscanned, ungrammatical}
 
 same_tokens : (src : List ℕ) (ts us : List Tok) → IsTokens src ts → IsTokens src us → ts ≡ us
 same_tokens src ts us h k =

@@ -4,24 +4,24 @@ use Rattle.std.proofs.Common.{sym, ap, subst, ◌∙◌, arith}
 use Rattle.std.proofs.lemmas.List.{append-nil}
 use Rattle.kb_text.specs.declared.fault.K.TheVariants.{Syntax}
 use Rattle.kb_text.specs.declared.fault.KbFault.{KbFault}
-use Rattle.fo_syntax.specs.declared.terminal.Terminal.TheVariants as t
-use Rattle.fo_syntax.specs.declared.stops.ReadError.{ReadError}
-use Rattle.fo_syntax.specs.declared.stops.ReadError.TheVariants.{Memory, Stuck}
-use Rattle.fo_syntax.specs.Terminals.{Symbol, Tok, tok_at, mark, word}
-use Rattle.fo_syntax.specs.Trees.{Formula, Term}
-use Rattle.fo_syntax.specs.Spelling.{put_formula, put_term}
-use Rattle.fo_syntax.specs.Fine.{FineFormula, FineTerm}
-use Rattle.fo_syntax.specs.Texts.{SameHead, ParsesTo, FirstStuck}
+use Rattle.grammar.specs.declared.terminal.Terminal.TheVariants as t
+use Rattle.grammar.specs.declared.stops.ReadError.{ReadError}
+use Rattle.grammar.specs.declared.stops.ReadError.TheVariants.{Memory, Stuck}
+use Rattle.grammar.specs.Terminals.{Symbol, Tok, tok_at, mark, word}
+use Rattle.grammar.specs.Trees.{Formula, Term}
+use Rattle.grammar.specs.Spelling.{put_formula, put_term}
+use Rattle.grammar.specs.Fine.{FineFormula, FineTerm}
+use Rattle.grammar.specs.Texts.{SameHead, ParsesTo, FirstStuck}
 use Rattle.token_reader.specs.Machine.{Frame, need, want, done, named, fresh, Mode, in_term, Sort, term, on, stuck}
 use Rattle.token_reader.specs.Machine.{whole, run, finish, ends_at, ended, step, advance, goes_on, shut, shuts}
 use Rattle.token_reader.specs.Machine.{behind_operand}
 use Rattle.token_reader.specs.Modes.{mode_formula, sort_formula}
 use Rattle.token_reader.specs.Parts.{Fails, EndsTerm, at_sentence, at_factor}
 use Rattle.formula_reader.specs.Results.{FormulaIs, TermIs}
-use Rattle.fo_syntax.specs.declared.error.KbError.{KbError}
-use Rattle.fo_syntax.specs.declared.error.KbError.TheVariants as errors
-use Rattle.fo_syntax.specs.Items.{IsTokens, ItemsOf}
-use Rattle.fo_syntax.specs.Whole.{IsStuck, parsed, unscanned, ungrammatical, Answers, Parses, refusal_of}
+use Rattle.grammar.specs.declared.error.KbError.{KbError}
+use Rattle.grammar.specs.declared.error.KbError.TheVariants as errors
+use Rattle.grammar.specs.Items.{IsTokens, ItemsOf}
+use Rattle.grammar.specs.Whole.{IsStuck, parsed, unscanned, ungrammatical, Answers, Parses, refusal_of}
 use Rattle.token_reader.proofs.Append.{formula-append, term-append}
 use Rattle.token_reader.proofs.Behind.{ends_formula}
 use Rattle.formula_reader.proofs.InTerms.{term_no_args}

@@ -1,19 +1,19 @@
 -- Chains of operands, and lists of arguments: what was read so far, and what the rest of one comes to.
 use Rattle.std.specs.Prelude.{◌≡◌, ℕ, List, ◌∷◌, Bool, Result, Ok, Err}
 use Rattle.std.specs.Borrow.{Bor}
-use Rattle.fo_syntax.specs.declared.stops.ReadError.{ReadError}
-use Rattle.fo_syntax.specs.declared.terminal.Item.{Item}
-use Rattle.fo_syntax.specs.declared.terminal.Adding.{Adding}
-use Rattle.fo_syntax.specs.declared.terminal.Arrow.{Arrow}
-use Rattle.fo_syntax.specs.declared.terminal.Terminal.TheVariants as t
-use Rattle.fo_syntax.specs.declared.raw.RawTerms.{RawTerms}
-use Rattle.fo_syntax.specs.Terminals.{Tok, sign, toks}
-use Rattle.fo_syntax.specs.Trees.{Name, Formula, alone, linked, Links, last, link, Or, And, Unary, Term, Product}
-use Rattle.fo_syntax.specs.Trees.{Factor}
-use Rattle.fo_syntax.specs.Spelling.{put_name, put_formula, put_or, put_and, put_term, put_product, put_app, put_terms}
-use Rattle.fo_syntax.specs.Fine.{closed_and, closed_or, FineFormula, FineOr, FineAnd, FineTerm, FineProduct, FineApp}
-use Rattle.fo_syntax.specs.Fine.{FineTerms}
-use Rattle.fo_syntax.specs.View.{terms_view, formula_of, or_of, and_of, term_of, product_of, terms_of}
+use Rattle.grammar.specs.declared.stops.ReadError.{ReadError}
+use Rattle.grammar.specs.declared.terminal.Item.{Item}
+use Rattle.grammar.specs.declared.terminal.Adding.{Adding}
+use Rattle.grammar.specs.declared.terminal.Arrow.{Arrow}
+use Rattle.grammar.specs.declared.terminal.Terminal.TheVariants as t
+use Rattle.grammar.specs.declared.raw.RawTerms.{RawTerms}
+use Rattle.grammar.specs.Terminals.{Tok, sign, toks}
+use Rattle.grammar.specs.Trees.{Name, Formula, alone, linked, Links, last, link, Or, And, Unary, Term, Product}
+use Rattle.grammar.specs.Trees.{Factor}
+use Rattle.grammar.specs.Spelling.{put_name, put_formula, put_or, put_and, put_term, put_product, put_app, put_terms}
+use Rattle.grammar.specs.Fine.{closed_and, closed_or, FineFormula, FineOr, FineAnd, FineTerm, FineProduct, FineApp}
+use Rattle.grammar.specs.Fine.{FineTerms}
+use Rattle.grammar.specs.View.{terms_view, formula_of, or_of, and_of, term_of, product_of, terms_of}
 use Rattle.token_reader.specs.Machine.{fresh, unsettled}
 use Rattle.token_reader.specs.Modes.{mode_formula, mode_or, mode_and, sort_formula, sort_or, sort_and}
 use Rattle.token_reader.specs.Parts.{unaries, ands, ors, Behind, Fails, at_entry, at_operand, at_either}

@@ -2,38 +2,38 @@
 use Rattle.std.specs.Prelude.{◌≡◌, ◌<◌, ◌≤◌, ℕ, List, [], ◌∷◌, length, Bool, false, Result, Ok, Err, IfOk}
 use Rattle.std.specs.Borrow.{Bor}
 use Rattle.std.specs.declared.alloc.Global.{Global}
-use Rattle.fo_syntax.specs.declared.stops.ReadError.{ReadError}
-use Rattle.fo_syntax.specs.declared.terminal.Item.{Item}
-use Rattle.fo_syntax.specs.declared.raw.RawFormula.{RawFormula}
-use Rattle.fo_syntax.specs.declared.raw.RawOr.{RawOr}
-use Rattle.fo_syntax.specs.declared.raw.RawAnd.{RawAnd}
-use Rattle.fo_syntax.specs.declared.raw.RawUnary.{RawUnary}
-use Rattle.fo_syntax.specs.declared.raw.RawTermTree.{RawTermTree}
-use Rattle.fo_syntax.specs.declared.raw.RawProduct.{RawProduct}
-use Rattle.fo_syntax.specs.declared.raw.RawFactor.{RawFactor}
-use Rattle.fo_syntax.specs.declared.raw.RawApp.{RawApp}
+use Rattle.grammar.specs.declared.stops.ReadError.{ReadError}
+use Rattle.grammar.specs.declared.terminal.Item.{Item}
+use Rattle.grammar.specs.declared.raw.RawFormula.{RawFormula}
+use Rattle.grammar.specs.declared.raw.RawOr.{RawOr}
+use Rattle.grammar.specs.declared.raw.RawAnd.{RawAnd}
+use Rattle.grammar.specs.declared.raw.RawUnary.{RawUnary}
+use Rattle.grammar.specs.declared.raw.RawTermTree.{RawTermTree}
+use Rattle.grammar.specs.declared.raw.RawProduct.{RawProduct}
+use Rattle.grammar.specs.declared.raw.RawFactor.{RawFactor}
+use Rattle.grammar.specs.declared.raw.RawApp.{RawApp}
 use Rattle.formula_reader.specs.declared.kinds.Pair.{Pair}
 use Rattle.formula_reader.specs.declared.kinds.Operand.{Operand}
 use Rattle.formula_reader.specs.declared.kinds.Operand.TheVariants as operand
 use Rattle.formula_reader.specs.declared.kinds.Content.{Content}
 use Rattle.formula_reader.specs.declared.kinds.Content.TheVariants as content
-use Rattle.fo_syntax.specs.declared.terminal.Terminal.TheVariants as t
-use Rattle.fo_syntax.specs.declared.raw.RawOpening.{RawOpening}
-use Rattle.fo_syntax.specs.declared.terminal.Adding.TheVariants.{Minus}
-use Rattle.fo_syntax.specs.Terminals.{Tok, sign, toks}
-use Rattle.fo_syntax.specs.Trees.{Formula, alone, Or, one, And, single, Unary, not, prim, Prim, group, atom, Term}
-use Rattle.fo_syntax.specs.Trees.{product, Product, factor, Factor, value, brackets, negative, App, constant, empty}
-use Rattle.fo_syntax.specs.Trees.{apply, Vars}
-use Rattle.fo_syntax.specs.Spelling.{put_formula, put_or, put_and, put_unary, put_prim, put_term, put_product}
-use Rattle.fo_syntax.specs.Spelling.{put_factor, put_app, put_vars}
-use Rattle.fo_syntax.specs.Fine.{closed_unary, closed_and, closed_or, FineFormula, FineOr, FineAnd, FineUnary, FineTerm}
-use Rattle.fo_syntax.specs.Fine.{FineProduct, FineFactor, FineApp}
+use Rattle.grammar.specs.declared.terminal.Terminal.TheVariants as t
+use Rattle.grammar.specs.declared.raw.RawOpening.{RawOpening}
+use Rattle.grammar.specs.declared.terminal.Adding.TheVariants.{Minus}
+use Rattle.grammar.specs.Terminals.{Tok, sign, toks}
+use Rattle.grammar.specs.Trees.{Formula, alone, Or, one, And, single, Unary, not, prim, Prim, group, atom, Term}
+use Rattle.grammar.specs.Trees.{product, Product, factor, Factor, value, brackets, negative, App, constant, empty}
+use Rattle.grammar.specs.Trees.{apply, Vars}
+use Rattle.grammar.specs.Spelling.{put_formula, put_or, put_and, put_unary, put_prim, put_term, put_product}
+use Rattle.grammar.specs.Spelling.{put_factor, put_app, put_vars}
+use Rattle.grammar.specs.Fine.{closed_unary, closed_and, closed_or, FineFormula, FineOr, FineAnd, FineUnary, FineTerm}
+use Rattle.grammar.specs.Fine.{FineProduct, FineFactor, FineApp}
 use Rattle.token_reader.specs.Sorts.{app_formula, app_unary, app_term}
 use Rattle.token_reader.specs.Machine.{Chain, fresh, unsettled, in_formula, either, brace, vars_first, colon}
 use Rattle.token_reader.specs.Modes.{mode_formula, mode_or, mode_and, mode_unary, sort_formula, sort_or, sort_and}
 use Rattle.token_reader.specs.Modes.{sort_unary}
-use Rattle.fo_syntax.specs.View.{formula_view, or_view, and_view, unary_view, term_view, product_view, factor_view}
-use Rattle.fo_syntax.specs.View.{app_view, vars_view}
+use Rattle.grammar.specs.View.{formula_view, or_view, and_view, unary_view, term_view, product_view, factor_view}
+use Rattle.grammar.specs.View.{app_view, vars_view}
 use Rattle.token_reader.specs.Parts.{EndsFactor, EndsTerm, EndsPrim, Halts, unaries, ands, ors, Behind, Fails}
 use Rattle.token_reader.specs.Parts.{at_sentence, at_bracket, at_entry, at_operand, at_unary, at_factor, at_either, At}
 use Rattle.token_reader.specs.Signs.{next, No}

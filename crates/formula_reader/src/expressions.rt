@@ -1,11 +1,11 @@
 //! What the readers of formulas and terms have in common: the readers of what nests in them, each a parameter, so
 //! that each rule of the grammar is proved by itself.
 ghost use Rattle.std.specs.Prelude.{◌≤◌, ◌<◌, length, IfOk};
-ghost use Rattle.fo_syntax.specs.Terminals.{toks};
+ghost use Rattle.grammar.specs.Terminals.{toks};
 ghost use Rattle.formula_reader.specs.Results.{Readers, FormulaRead, ContentRead, TermRead};
 
 use crate::kinds::Content;
-use fo_syntax::{Item, RawFormula, RawTermTree};
+use grammar::{Item, RawFormula, RawTermTree};
 use sqlite_items::Boxed;
 use std::alloc::Global;
 use token_reader::cursor::Found;

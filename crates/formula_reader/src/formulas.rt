@@ -1,12 +1,12 @@
 //! Formulas, and the operands of which they are made.
 ghost use Rattle.std.specs.Prelude.{◌≡◌, ◌∷◌, ◌≤◌, ◌<◌, ℕ, List, length, map, true, false, IfOk};
-ghost use Rattle.fo_syntax.specs.Terminals.{Tok, toks, tok_at, word, sign};
-ghost use Rattle.fo_syntax.specs.Trees as tree;
-ghost use Rattle.fo_syntax.specs.Spelling.{put_unary, put_prim, put_term, put_factor};
-ghost use Rattle.fo_syntax.specs.Fine.{FineTerm, FineFactor, FineApp};
+ghost use Rattle.grammar.specs.Terminals.{Tok, toks, tok_at, word, sign};
+ghost use Rattle.grammar.specs.Trees as tree;
+ghost use Rattle.grammar.specs.Spelling.{put_unary, put_prim, put_term, put_factor};
+ghost use Rattle.grammar.specs.Fine.{FineTerm, FineFactor, FineApp};
 ghost use Rattle.token_reader.specs.Sorts.{app_formula, app_or, app_and, app_unary, app_term, app_factor};
-ghost use Rattle.fo_syntax.specs.View.{formula_of, or_of, and_of, link_view, or_tail_view, and_tail_view, formula_view};
-ghost use Rattle.fo_syntax.specs.View.{or_view, and_view, unary_view, prim_view, term_view, factor_view, app_view};
+ghost use Rattle.grammar.specs.View.{formula_of, or_of, and_of, link_view, or_tail_view, and_tail_view, formula_view};
+ghost use Rattle.grammar.specs.View.{or_view, and_view, unary_view, prim_view, term_view, factor_view, app_view};
 ghost use Rattle.token_reader.specs.Parts.{EndsFactor, EndsTerm, EndsPrim, TermsOnly};
 ghost use Rattle.token_reader.specs.Signs.{next, No};
 ghost use Rattle.formula_reader.specs.Chains.{AndsAre, OrsAre, LinksAre, MoreAnds, MoreOrs, MoreLinks};
@@ -14,11 +14,11 @@ ghost use Rattle.formula_reader.specs.Results.{Readers, UnaryIs, UnaryRead, AndR
 ghost use Rattle.formula_reader.specs.Results.{DisjunctionRead, FormulaRead, LinkedRead, OperandIs, OperandRead};
 ghost use Rattle.formula_reader.specs.Results.{ContentRead, InsideRead, SettledRead, wrap_prim, wrap_factor, nots};
 ghost use Rattle.formula_reader.specs.Results.{put_nots};
-ghost use Rattle.fo_syntax.specs.declared.terminal.Terminal.TheVariants as t;
+ghost use Rattle.grammar.specs.declared.terminal.Terminal.TheVariants as t;
 
 use crate::expressions::Reader;
 use crate::kinds::{Content, Operand, Pair};
-use fo_syntax::{
+use grammar::{
     Arrow, Item, RawAnd, RawAndTail, RawApp, RawFactor, RawFormula, RawLink, RawOr, RawOrTail,
     RawPrim, RawTermTree, RawUnary, ReadError, Terminal,
 };

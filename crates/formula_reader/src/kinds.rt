@@ -1,5 +1,5 @@
 //! What an operand turns out to be.
-use fo_syntax::{RawApp, RawFormula, RawTermTree, RawUnary};
+use grammar::{RawApp, RawFormula, RawTermTree, RawUnary};
 use sqlite_items::{Boxed, Items};
 
 /// The places of two brackets.

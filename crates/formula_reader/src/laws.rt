@@ -1,10 +1,10 @@
 //! Laws of the grammar.
 ghost use Rattle.std.specs.Prelude.{◌≡◌, [], ℕ, List, Result};
 ghost use Rattle.kb_text.specs.declared.fault.KbFault.{KbFault};
-ghost use Rattle.fo_syntax.specs.Trees.{Formula, Term};
-ghost use Rattle.fo_syntax.specs.Fine.{FineFormula, FineTerm};
-ghost use Rattle.fo_syntax.specs.Spelling.{put_formula, put_term};
-ghost use Rattle.fo_syntax.specs.Whole.{Reads};
+ghost use Rattle.grammar.specs.Trees.{Formula, Term};
+ghost use Rattle.grammar.specs.Fine.{FineFormula, FineTerm};
+ghost use Rattle.grammar.specs.Spelling.{put_formula, put_term};
+ghost use Rattle.grammar.specs.Whole.{Reads};
 
 /// No text is written by two formulas.
 pub fn one_formula()

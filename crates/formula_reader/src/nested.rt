@@ -1,11 +1,11 @@
 //! The readers of formulas and terms, each of which reads what nests in it by all of them.
 ghost use Rattle.std.specs.Prelude.{◌≤◌, length, IfOk};
-ghost use Rattle.fo_syntax.specs.Terminals.{toks};
+ghost use Rattle.grammar.specs.Terminals.{toks};
 ghost use Rattle.formula_reader.specs.Results.{FormulaRead, ContentRead, TermRead};
 
 use crate::expressions::Reader;
 use crate::kinds::Content;
-use fo_syntax::{Item, RawFormula, RawTermTree};
+use grammar::{Item, RawFormula, RawTermTree};
 use sqlite_items::Boxed;
 use std::alloc::Global;
 use token_reader::cursor::Found;

@@ -1,25 +1,25 @@
 //! Terms, and the parts of them.
 ghost use Rattle.std.specs.Prelude.{◌≡◌, ◌∷◌, ◌≤◌, ◌<◌, ℕ, List, length, map, IfOk};
-ghost use Rattle.fo_syntax.specs.Terminals.{Tok, toks, tok_at, word, sign};
-ghost use Rattle.fo_syntax.specs.Trees.{Name, Formula, Term, Product, Factor};
-ghost use Rattle.fo_syntax.specs.declared.terminal.Aggregation.{Aggregation};
+ghost use Rattle.grammar.specs.Terminals.{Tok, toks, tok_at, word, sign};
+ghost use Rattle.grammar.specs.Trees.{Name, Formula, Term, Product, Factor};
+ghost use Rattle.grammar.specs.declared.terminal.Aggregation.{Aggregation};
 ghost use Rattle.token_reader.specs.Machine.{fresh};
-ghost use Rattle.fo_syntax.specs.Spelling.{put_name, put_term, put_product, put_factor, put_terms};
-ghost use Rattle.fo_syntax.specs.Fine.{FineTerm, FineProduct, FineFactor, FineTerms};
-ghost use Rattle.fo_syntax.specs.View.{name_view, factor_view, product_tail_view, sum_tail_view, terms_tail_view};
-ghost use Rattle.fo_syntax.specs.View.{product_of, term_of, terms_of};
+ghost use Rattle.grammar.specs.Spelling.{put_name, put_term, put_product, put_factor, put_terms};
+ghost use Rattle.grammar.specs.Fine.{FineTerm, FineProduct, FineFactor, FineTerms};
+ghost use Rattle.grammar.specs.View.{name_view, factor_view, product_tail_view, sum_tail_view, terms_tail_view};
+ghost use Rattle.grammar.specs.View.{product_of, term_of, terms_of};
 ghost use Rattle.token_reader.specs.Signs.{next, No};
 ghost use Rattle.token_reader.specs.Parts.{EndsFactor, EndsTerm};
-ghost use Rattle.fo_syntax.specs.declared.terminal.Adding.TheVariants.{Minus};
+ghost use Rattle.grammar.specs.declared.terminal.Adding.TheVariants.{Minus};
 ghost use Rattle.formula_reader.specs.Chains.{MoreFactors, MoreProducts, MoreTerms, ListedRead};
 ghost use Rattle.formula_reader.specs.Results.{Readers, Opening, put_opening, FormulaIs, WeighedRead, ArgumentsRead};
 ghost use Rattle.formula_reader.specs.Results.{OpeningRead, UnsignedRead, BareRead, put_minuses, FactorRead};
 ghost use Rattle.formula_reader.specs.Results.{ProductRead, SumRead, TermRead, negatives};
-ghost use Rattle.fo_syntax.specs.declared.terminal.Terminal.TheVariants as t;
+ghost use Rattle.grammar.specs.declared.terminal.Terminal.TheVariants as t;
 
 use crate::expressions::Reader;
 use crate::kinds::Content;
-use fo_syntax::{
+use grammar::{
     Adding, Aggregation, Item, RawApp, RawFactor, RawFormula, RawName, RawOpening, RawProduct,
     RawProductTail, RawSumTail, RawTermTree, RawTerms, RawTermsTail, ReadError, Terminal,
 };

@@ -1,12 +1,12 @@
 //! Whole texts that are one formula or one term.
-ghost use Rattle.fo_syntax.specs.Terminals.{toks};
-ghost use Rattle.fo_syntax.specs.Spelling.{put_formula, put_term};
-ghost use Rattle.fo_syntax.specs.Fine.{FineFormula, FineTerm};
-ghost use Rattle.fo_syntax.specs.View.{formula_view, term_view};
-ghost use Rattle.fo_syntax.specs.Whole.{Answers, Parses};
+ghost use Rattle.grammar.specs.Terminals.{toks};
+ghost use Rattle.grammar.specs.Spelling.{put_formula, put_term};
+ghost use Rattle.grammar.specs.Fine.{FineFormula, FineTerm};
+ghost use Rattle.grammar.specs.View.{formula_view, term_view};
+ghost use Rattle.grammar.specs.Whole.{Answers, Parses};
 
 use crate::nested::{formula, term};
-use fo_syntax::{Item, KbError, RawFormula, RawTermTree, ReadError};
+use grammar::{Item, KbError, RawFormula, RawTermTree, ReadError};
 use std::alloc::Global;
 use token_reader::cursor::split;
 use token_reader::items::items;

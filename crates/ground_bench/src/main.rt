@@ -6,7 +6,7 @@ use base_reader::read_base;
 use consult_base::KnowledgeBase;
 use ground_core::Problem;
 use grounder::ground;
-use kb_sizes::{atoms, weight};
+use size_stage::{atoms, weight};
 use std::env;
 use std::io::{Read, Write};
 use std::process::ExitCode;

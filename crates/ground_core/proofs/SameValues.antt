@@ -14,7 +14,8 @@ use Rattle.ground_core.specs.declared.parts.Part.{Part}
 use Rattle.ground_core.specs.declared.parts.AggCon.{AggCon}
 use Rattle.ground_core.specs.declared.parts.GroundTerm.{GroundTerm}
 use Rattle.ground_core.specs.declared.parts.TermBound.{TermBound}
-use Rattle.ground_core.specs.Meaning.{joined, weights_of, parts_value, denotation_of_bound, shifted, term_value, GateHolds}
+use Rattle.ground_core.specs.Meaning.{joined, weights_of, parts_value, denotation_of_bound, shifted, term_value}
+use Rattle.ground_core.specs.Meaning.{GateHolds}
 use Rattle.ground_core.specs.Meaning.{SumHolds}
 
 module _ (P : Lit → Type 0) (v w : ℕ → Bool) (same : (l : Lit) → P l → literal_value v l ≡ literal_value w l) where

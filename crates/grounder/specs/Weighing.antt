@@ -1,7 +1,7 @@
 -- Why a knowledge base may be refused.
 use Rattle.std.specs.Prelude.{◌<◌, ⊤}
 use Rattle.kb_logic.specs.Bases.{Base}
-use Rattle.reading_stages.specs.SizesStage.{weight_limit}
+use Rattle.stage_definitions.specs.SizesStage.{weight_limit}
 use Rattle.open_sizes.specs.OpenWeights.{base_weight}
 use Rattle.grounder.specs.declared.errors.GroundError.{GroundError}
 use Rattle.grounder.specs.declared.errors.GroundError.TheVariants.{TooLarge, Memory}

@@ -1,9 +1,9 @@
 -- How many elements a type has.
 use Rattle.std.proofs.Common.{◌≡◌, length, sym, ap, ◌∙◌}
-use Rattle.reading_stages.specs.Elements as set
-use Rattle.structure_laws.proofs.Counting.{listed_are_counted}
+use Rattle.stage_definitions.specs.Elements as set
+use Rattle.reading_laws.proofs.Counting.{listed_are_counted}
 use Rattle.data_domains.specs.declared.types.TypeData.{TypeData}
-use Rattle.kb_sizes.specs.Counted.{count_in, IsCountable}
+use Rattle.size_stage.specs.Counted.{count_in, IsCountable}
 
 -- the number that the type's set has is that of its elements
 pub counted_listed : (x : TypeData) (h : IsCountable x) → set.count_of h.cells ≡ count_in x

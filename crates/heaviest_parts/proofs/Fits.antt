@@ -3,8 +3,8 @@ use Rattle.std.proofs.Common.{◌≡◌, ℕ, zero, suc, List, [], ◌∷◌, So
 use Rattle.std.specs.List.{AllByRecursion}
 use Rattle.kb_logic.specs.Bases.{NamedTerm}
 use Rattle.kb_logic.specs.Trees.{TermTree}
-use Rattle.reading_stages.specs.FileBases.{named_term}
-use Rattle.reading_stages.specs.TypedFiles.{TypedTermTree}
+use Rattle.stage_definitions.specs.FileBases.{named_term}
+use Rattle.stage_definitions.specs.TypedFiles.{TypedTermTree}
 
 pub by_number : {X : Type 0} (P : X → Type 0) (xs : List X) (n : ℕ) (x : X) → AllByRecursion P xs
     → slice_get xs n ≡ Some x → P x

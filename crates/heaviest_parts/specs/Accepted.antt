@@ -1,8 +1,8 @@
 -- Files that the first stages of reading accept.
-use Rattle.reading_stages.specs.Files.{File}
-use Rattle.reading_stages.specs.Numbering.{IsNamed, NamedFile}
-use Rattle.reading_stages.specs.TypesStage.{IsTyped}
-use Rattle.reading_stages.specs.TypedFiles.{TypedFile}
+use Rattle.stage_definitions.specs.Files.{File}
+use Rattle.stage_definitions.specs.Numbering.{IsNamed, NamedFile}
+use Rattle.stage_definitions.specs.TypesStage.{IsTyped}
+use Rattle.stage_definitions.specs.TypedFiles.{TypedFile}
 
 -- the stages of names and of types accept some file, of which these are the types
 abbrev pub IsAcceptedFile : TypedFile → Type 0

@@ -1,8 +1,8 @@
 //! How many elements types have, without a list of them.
 ghost use Rattle.std.specs.Prelude.{◌≡◌, ℕ, map, IfOk};
 ghost use Rattle.std.specs.List.{AllByRecursion};
-ghost use Rattle.reading_stages.specs.SizesStage.{capped};
-ghost use Rattle.kb_sizes.specs.Counted.{count_in, IsCountable};
+ghost use Rattle.stage_definitions.specs.SizesStage.{capped};
+ghost use Rattle.size_stage.specs.Counted.{count_in, IsCountable};
 
 use data_domains::types::TypeData;
 use std::alloc::{AllocError as Memory, Global};

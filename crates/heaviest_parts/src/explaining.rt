@@ -1,9 +1,9 @@
 //! Why a file is refused, and what makes it too large.
 ghost use Rattle.std.specs.Prelude.{map};
 ghost use Rattle.std.specs.List.{AllByRecursion};
-ghost use Rattle.kb_sizes.specs.Counted.{IsCountable};
+ghost use Rattle.size_stage.specs.Counted.{IsCountable};
 ghost use Rattle.open_sizes.specs.Fits.{WeighingFits};
-ghost use Rattle.reading_stages.specs.FileBases.{theory_at};
+ghost use Rattle.stage_definitions.specs.FileBases.{theory_at};
 ghost use Rattle.type_derivation.specs.TypedViews.{named_term_view, typed_view};
 ghost use Rattle.heaviest_parts.specs.Accepted.{IsAcceptedFile};
 
@@ -12,15 +12,15 @@ use crate::lines::{Excess, lines_on};
 use crate::open::open_parts;
 use crate::parts::{Part, atoms_in, weights_in, whole_weight};
 use crate::reading::{TypedFile, typed_file};
+use base_reader::{accepted_can_be_grounded, accepted_is_bounded};
 use data_domains::types::{TypeData, types_of};
-use data_entries::entries::entries;
-use file_bases::{accepted_can_be_grounded, accepted_is_bounded};
-use fo_syntax::{KbError, RawStructure};
-use kb_sizes::domains::Domains;
+use grammar::{KbError, RawStructure};
 use kb_text::{K, KbFault};
 use open_sizes::laws::small_bases_fit;
 use partial_structures::Partial;
+use size_stage::domains::Domains;
 use std::alloc::{AllocError as Memory, Global};
+use structure_entries::entries::entries;
 use structure_reader::read_data;
 
 /// The greatest weight of a knowledge base whose data are not narrowed: of others, what is left open may be refused.

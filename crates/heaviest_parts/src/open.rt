@@ -2,7 +2,7 @@
 ghost use Rattle.std.specs.Prelude.{[], map};
 ghost use Rattle.kb_logic.specs.Views.{theory_view};
 ghost use Rattle.open_sizes.specs.Fits.{WeighingFits};
-ghost use Rattle.reading_stages.specs.FileBases.{theory_at};
+ghost use Rattle.stage_definitions.specs.FileBases.{theory_at};
 ghost use Rattle.type_derivation.specs.TypedViews.{named_term_view, typed_view};
 
 use crate::choice::heaviest;

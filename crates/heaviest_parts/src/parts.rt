@@ -1,10 +1,10 @@
 //! The parts of a file, each with its place and what it counts.
 use crate::reading::TypedFile;
-use fo_syntax::{RawTheory, RawTheoryItem};
+use grammar::{RawTheory, RawTheoryItem};
 use kb_logic::Theory;
-use kb_sizes::domains::Domains;
-use kb_sizes::occurrences::{asked, formula_occurrences};
-use kb_sizes::weights::{atoms_of, rules, weight};
+use size_stage::domains::Domains;
+use size_stage::occurrences::{asked, formula_occurrences};
+use size_stage::weights::{atoms_of, rules, weight};
 use std::alloc::{AllocError as Memory, Global};
 use type_derivation::TypedKb;
 

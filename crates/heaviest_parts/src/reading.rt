@@ -5,7 +5,7 @@ ghost use Rattle.heaviest_parts.specs.Accepted.{IsAcceptedFile};
 
 use block_choice::{Picked, pick};
 use fo_reader::read_kb;
-use fo_syntax::{KbError, RawKb};
+use grammar::{KbError, RawKb};
 use kb_names::resolve;
 use std::alloc::Global;
 use type_derivation::{TypedKb, derive};

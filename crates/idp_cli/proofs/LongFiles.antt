@@ -1,6 +1,6 @@
 -- A file that is longer than it may be is refused for that.
 use Rattle.std.proofs.Common.{◌≡◌, ℕ, ◌+◌, ◌<◌, List, length, take, refl, sym, ap, subst, Option, Some, None}
-use Rattle.fo_syntax.specs.FileReads.{most_bytes, too_long}
+use Rattle.grammar.specs.FileReads.{most_bytes, too_long}
 use Rattle.kb_io.specs.Lines.{newlines}
 use Rattle.kb_text.specs.declared.fault.K.TheVariants.{TooLong}
 use Rattle.base_reader.specs.FileMeanings.{Choice, text}

@@ -13,7 +13,7 @@ use Rattle.generated_files.specs.declared.kinds.Kind.{Kind}
 use Rattle.kb_logic.specs.declared.elements.ExtInt.{ExtInt}
 use Rattle.kb_logic.specs.declared.structures.Literal.{Literal}
 use Rattle.kb_logic.specs.Bases.{Base}
-use Rattle.block_texts.specs.Texts.{block_text}
+use Rattle.printed_texts.specs.Texts.{block_text}
 use Rattle.base_reader.specs.FileMeanings.{Choice, Meaning, FileMeans, base_of_meaning}
 use Rattle.consultation.specs.Accepted.{LogsAccepted}
 use Rattle.consultation.specs.Answering.{HasReason, AnswersScript}

@@ -1,6 +1,6 @@
 //! The knowledge base of a file.
 ghost use Rattle.std.specs.Prelude.{◌≡◌, ◌≢◌, ℕ, ◌+◌, ◌<◌, ◌≤◌, List, length, take, Ok, IfOk, IfErr, OnOk};
-ghost use Rattle.fo_syntax.specs.FileReads.{most_bytes};
+ghost use Rattle.grammar.specs.FileReads.{most_bytes};
 ghost use Rattle.kb_io.specs.Lines.{newlines};
 ghost use Rattle.kb_io.specs.Outside.{GrewByName, KeptNumber};
 ghost use Rattle.idp_cli.specs.Files.{Loads, Takes, line_of};

@@ -1,7 +1,7 @@
 -- What a file with numbers for words is, before it is known whether something in it is refused.
 use Rattle.std.specs.Prelude.{map}
-use Rattle.reading_stages.specs.Numbering.{NamedFile}
-use Rattle.reading_stages.specs.FileViews.{block_view, theory_view}
+use Rattle.stage_definitions.specs.Numbering.{NamedFile}
+use Rattle.stage_definitions.specs.FileViews.{block_view, theory_view}
 use Rattle.kb_names.specs.declared.files.Numbered.{Numbered}
 
 abbrev pub numbered_view : Numbered → NamedFile

@@ -1,15 +1,15 @@
 //! Cycles of `isa`.
 ghost use Rattle.std.specs.Prelude.{◌≡◌, Some, List, Bool, ℕ, fold, map, slice_get};
 ghost use Rattle.kb_text.specs.declared.fault.K.TheVariants as k;
-ghost use Rattle.reading_stages.specs.Earliest.{noted_if};
-ghost use Rattle.reading_stages.specs.NamesStage.{begins_cycle, name_noted, stepped};
-ghost use Rattle.reading_stages.specs.NamesStage as stage;
-ghost use Rattle.reading_stages.specs.Names.{Names, place_of_name};
-ghost use Rattle.fo_syntax.specs.Trees.{Name};
-ghost use Rattle.reading_stages.specs.Uses.{climbing_uses};
+ghost use Rattle.stage_definitions.specs.Earliest.{noted_if};
+ghost use Rattle.stage_definitions.specs.NamesStage.{begins_cycle, name_noted, stepped};
+ghost use Rattle.stage_definitions.specs.NamesStage as stage;
+ghost use Rattle.stage_definitions.specs.Names.{Names, place_of_name};
+ghost use Rattle.grammar.specs.Trees.{Name};
+ghost use Rattle.stage_definitions.specs.Uses.{climbing_uses};
 
 use kb_text::K;
-use reading_stages::Earliest;
+use stage_definitions::Earliest;
 
 /// The parent of a type, where it is another type.
 fn parent(parents: &[Option<usize>], ty: usize) -> Option<usize>

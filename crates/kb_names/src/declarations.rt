@@ -1,21 +1,21 @@
 //! The names that a vocabulary declares.
 ghost use Rattle.std.specs.Prelude.{◌≡◌, ◌∷◌, [], ◌≤◌, ◌+◌, ◌<◌, ◌^◌, fold, map, OnOk, IfOk, length};
 ghost use Rattle.std.specs.Option.{option_map};
-ghost use Rattle.reading_stages.specs.FileView.{declaration_in, element_name, argument_names, result_name};
-ghost use Rattle.reading_stages.specs.Names.{Names, declared, declared_names, made_names, names_of, number_types};
-ghost use Rattle.reading_stages.specs.Names.{with_names, symbol_meaning};
-ghost use Rattle.reading_stages.specs.NamesStage.{name_noted};
-ghost use Rattle.reading_stages.specs.Uses.{declares, declared_uses};
-ghost use Rattle.fo_syntax.specs.View.{name_view};
+ghost use Rattle.stage_definitions.specs.FileView.{declaration_in, element_name, argument_names, result_name};
+ghost use Rattle.stage_definitions.specs.Names.{Names, declared, declared_names, made_names, names_of, number_types};
+ghost use Rattle.stage_definitions.specs.Names.{with_names, symbol_meaning};
+ghost use Rattle.stage_definitions.specs.NamesStage.{name_noted};
+ghost use Rattle.stage_definitions.specs.Uses.{declares, declared_uses};
+ghost use Rattle.grammar.specs.View.{name_view};
 ghost use Rattle.formula_names.specs.Meanings.{meaning_view, names_in};
 ghost use Rattle.formula_names.specs.Tails.{type_count, symbol_count};
 
-use fo_syntax::{RawDeclaration, RawElementTail, RawName, RawPositions, RawSymbol};
 use formula_names::tables::{Meaning, Table, declare, is_declared};
+use grammar::{RawDeclaration, RawElementTail, RawName, RawPositions, RawSymbol};
 use indexmap::IndexMap;
 use kb_logic::Memory;
 use kb_text::K;
-use reading_stages::Earliest;
+use stage_definitions::Earliest;
 use std::alloc::Global;
 
 /// One more name. A name that is declared already is refused.

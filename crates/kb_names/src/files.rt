@@ -1,16 +1,16 @@
 //! A raw knowledge base with numbers for words, or the earliest refusal.
 ghost use Rattle.std.specs.Prelude.{◌≡◌, fold, map, OnOk, IfOk, IfErr};
 ghost use Rattle.std.specs.List.{flat_map};
-ghost use Rattle.reading_stages.specs.Below.{HasNoCycle, type_parents};
-ghost use Rattle.reading_stages.specs.FileView.{declaration_in, file_in, term_in, theory_in, vocabulary_in};
-ghost use Rattle.reading_stages.specs.Names.{names_of};
-ghost use Rattle.reading_stages.specs.NamesStage.{declarations_of, name_noted, uses_of_file};
-ghost use Rattle.reading_stages.specs.Numbering as number;
-ghost use Rattle.reading_stages.specs.Numbering.{IsNamed};
-ghost use Rattle.reading_stages.specs.Uses as use_of;
-ghost use Rattle.reading_stages.specs.Uses.{climbing_uses, type_names};
-ghost use Rattle.reading_stages.specs.Failures.{FailsWith};
-ghost use Rattle.reading_stages.specs.FileViews.{block_view, kb_view, theory_view};
+ghost use Rattle.stage_definitions.specs.Below.{HasNoCycle, type_parents};
+ghost use Rattle.stage_definitions.specs.FileView.{declaration_in, file_in, term_in, theory_in, vocabulary_in};
+ghost use Rattle.stage_definitions.specs.Names.{names_of};
+ghost use Rattle.stage_definitions.specs.NamesStage.{declarations_of, name_noted, uses_of_file};
+ghost use Rattle.stage_definitions.specs.Numbering as number;
+ghost use Rattle.stage_definitions.specs.Numbering.{IsNamed};
+ghost use Rattle.stage_definitions.specs.Uses as use_of;
+ghost use Rattle.stage_definitions.specs.Uses.{climbing_uses, type_names};
+ghost use Rattle.stage_definitions.specs.Failures.{FailsWith};
+ghost use Rattle.stage_definitions.specs.FileViews.{block_view, kb_view, theory_view};
 ghost use Rattle.formula_names.specs.Meanings.{names_in};
 ghost use Rattle.kb_names.specs.NumberedViews.{numbered_view};
 
@@ -19,11 +19,11 @@ use crate::declarations::declared_table;
 use crate::places::{parents_in, symbol_places, type_places};
 use crate::theories::{block, theory};
 use crate::vocabularies::types_and_symbols;
-use fo_syntax::{KbError, RawDeclaration, RawKb, RawTerm, RawTheory, RawVocabulary};
 use formula_names::tables::Table;
+use grammar::{KbError, RawDeclaration, RawKb, RawTerm, RawTheory, RawVocabulary};
 use kb_logic::{Memory, Name, Vocabulary};
-use reading_stages::{Earliest, NamedKb, NamedTermBlock, NamedTheory};
 use sqlite_items::Items;
+use stage_definitions::{Earliest, NamedKb, NamedTermBlock, NamedTheory};
 use std::alloc::Global;
 
 /// A file with numbers for words, before it is known whether something in it is refused.

@@ -1,13 +1,13 @@
 //! Where types and symbols are declared, and which types stand under which.
 ghost use Rattle.std.specs.Prelude.{◌≡◌, ◌∷◌, [], ◌++◌, map, OnOk, IfOk};
 ghost use Rattle.std.specs.Option.{option_map};
-ghost use Rattle.reading_stages.specs.FileView.{declaration_in, isa_name};
-ghost use Rattle.reading_stages.specs.Numbering as number;
-ghost use Rattle.reading_stages.specs.Uses as use_of;
+ghost use Rattle.stage_definitions.specs.FileView.{declaration_in, isa_name};
+ghost use Rattle.stage_definitions.specs.Numbering as number;
+ghost use Rattle.stage_definitions.specs.Uses as use_of;
 ghost use Rattle.formula_names.specs.Meanings.{meaning_view, names_in};
 
-use fo_syntax::{RawDeclaration, RawIsa};
 use formula_names::tables::{Meaning, Table, declared_meaning};
+use grammar::{RawDeclaration, RawIsa};
 use kb_logic::Memory;
 use sqlite_items::Items;
 use std::alloc::Global;

@@ -1,21 +1,21 @@
 //! Theories and term blocks with numbers for words.
 ghost use Rattle.std.specs.Prelude.{◌≡◌, ◌++◌, fold, map, OnOk, IfOk};
 ghost use Rattle.std.specs.List.{flat_map};
-ghost use Rattle.reading_stages.specs.FileView.{part_in, term_in, theory_in};
-ghost use Rattle.reading_stages.specs.NamesStage.{name_noted};
-ghost use Rattle.reading_stages.specs.Numbering as number;
-ghost use Rattle.reading_stages.specs.Uses as use_of;
+ghost use Rattle.stage_definitions.specs.FileView.{part_in, term_in, theory_in};
+ghost use Rattle.stage_definitions.specs.NamesStage.{name_noted};
+ghost use Rattle.stage_definitions.specs.Numbering as number;
+ghost use Rattle.stage_definitions.specs.Uses as use_of;
 ghost use Rattle.formula_names.specs.Meanings.{names_in};
-ghost use Rattle.reading_stages.specs.FileViews.{theory_view, block_view};
-ghost use Rattle.reading_stages.specs.NamedViews.{definition_view, formula_view};
+ghost use Rattle.stage_definitions.specs.FileViews.{theory_view, block_view};
+ghost use Rattle.stage_definitions.specs.NamedViews.{definition_view, formula_view};
 
-use fo_syntax::{RawTerm, RawTheory, RawTheoryItem};
 use formula_names::formulas::{block_term, sentence};
 use formula_names::tables::Table;
+use grammar::{RawTerm, RawTheory, RawTheoryItem};
 use kb_logic::{Memory, Name};
-use reading_stages::{Earliest, NamedDefinition, NamedFormula, NamedTermBlock, NamedTheory};
 use rule_names::definition;
 use sqlite_items::Items;
+use stage_definitions::{Earliest, NamedDefinition, NamedFormula, NamedTermBlock, NamedTheory};
 use std::alloc::Global;
 
 /// What was read of a theory so far.

@@ -1,25 +1,25 @@
 //! The types and symbols of a vocabulary, with numbers for the words of their declarations.
 ghost use Rattle.std.specs.Prelude.{◌≡◌, ◌∷◌, [], ◌++◌, ◌+◌, fold, map, OnOk, IfOk, length};
 ghost use Rattle.std.specs.Option.{option_map};
-ghost use Rattle.reading_stages.specs.FileView.{argument_names, declaration_in, element_name, isa_name, result_name};
-ghost use Rattle.reading_stages.specs.Files as file;
-ghost use Rattle.reading_stages.specs.Names.{Names, text_of};
-ghost use Rattle.reading_stages.specs.NamesStage.{name_noted};
-ghost use Rattle.reading_stages.specs.Numbering as number;
-ghost use Rattle.reading_stages.specs.Uses as use_of;
-ghost use Rattle.fo_syntax.specs.View.{name_view};
+ghost use Rattle.stage_definitions.specs.FileView.{argument_names, declaration_in, element_name, isa_name, result_name};
+ghost use Rattle.stage_definitions.specs.Files as file;
+ghost use Rattle.stage_definitions.specs.Names.{Names, text_of};
+ghost use Rattle.stage_definitions.specs.NamesStage.{name_noted};
+ghost use Rattle.stage_definitions.specs.Numbering as number;
+ghost use Rattle.stage_definitions.specs.Uses as use_of;
+ghost use Rattle.grammar.specs.View.{name_view};
 ghost use Rattle.formula_names.specs.Meanings.{meaning_view, names_in};
 
 use crate::declarations::argument_count;
-use fo_syntax::{
-    RawConstructed, RawDeclaration, RawElementTail, RawIsa, RawName, RawSymbol, RawType,
-};
 use formula_names::positions::{positions, value_position};
 use formula_names::tables::{Meaning, Table};
 use formula_names::uses::{parent, within_count};
+use grammar::{
+    RawConstructed, RawDeclaration, RawElementTail, RawIsa, RawName, RawSymbol, RawType,
+};
 use kb_logic::{Memory, Name, NameList, Parent, Symbol, SymbolList, TypeDecl, TypeList};
 use kb_text::K;
-use reading_stages::Earliest;
+use stage_definitions::Earliest;
 use std::alloc::Global;
 
 /// The types and symbols of some declarations.

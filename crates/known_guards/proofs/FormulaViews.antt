@@ -6,7 +6,8 @@ use Rattle.kb_logic.specs.declared.syntax.Formula.{Formula, And, Atom, Implies, 
 use Rattle.kb_logic.specs.declared.syntax.Formula.{the_lemmas as of_formulas}
 use Rattle.kb_logic.specs.declared.syntax.Term.{Term, Int, Made, Var}
 use Rattle.kb_logic.specs.declared.syntax.Term.{the_lemmas as of_terms}
-use Rattle.kb_logic.specs.Trees.{atom, conjunction, constructed, disjunction, formulas_of, implication, integer, negation}
+use Rattle.kb_logic.specs.Trees.{atom, conjunction, constructed, disjunction, formulas_of, implication, integer}
+use Rattle.kb_logic.specs.Trees.{negation}
 use Rattle.kb_logic.specs.Trees.{terms_of, variable}
 use Rattle.kb_logic.specs.Views.{formula_view, term_view}
 

@@ -11,7 +11,8 @@ use Rattle.kb_logic.specs.Views.{formula_view, term_view}
 use Rattle.partial_structures.specs.KnownAtoms.{KnownAtoms}
 use Rattle.partial_structures.specs.declared.truths.Truth.{Truth}
 use Rattle.partial_structures.specs.declared.truths.Truth.TheVariants as truth
-use Rattle.certain_truth.specs.Certainty.{certain_truth, either_certain, known_cons, known_values, not_certain, truth_if}
+use Rattle.certain_truth.specs.Certainty.{certain_truth, either_certain, known_cons, known_values, not_certain}
+use Rattle.certain_truth.specs.Certainty.{truth_if}
 use Rattle.certain_truth.specs.Evaluation.{joined, parts_of}
 use Rattle.certain_truth.proofs.Connected.{parts_more}
 use Rattle.row_ranges.specs.Arguments.{argument_value}

@@ -1,8 +1,8 @@
 -- What the stages of names and types made of a file.
-use Rattle.reading_stages.specs.Files.{File}
-use Rattle.reading_stages.specs.Numbering.{IsNamed, NamedFile}
-use Rattle.reading_stages.specs.TypesStage.{IsTyped}
-use Rattle.reading_stages.specs.TypedFiles.{TypedFile}
+use Rattle.stage_definitions.specs.Files.{File}
+use Rattle.stage_definitions.specs.Numbering.{IsNamed, NamedFile}
+use Rattle.stage_definitions.specs.TypesStage.{IsTyped}
+use Rattle.stage_definitions.specs.TypedFiles.{TypedFile}
 
 -- the file has these types
 abbrev pub HasTypedFile : File → TypedFile → Type 0

@@ -1,7 +1,7 @@
 //! What a theory fixes, symbol by symbol, and the weight of what it leaves open.
 ghost use Rattle.std.specs.Prelude.{◌≡◌, ◌≤◌, ◌<◌, ◌^◌, length};
 ghost use Rattle.kb_logic.specs.Bounds.{TheoryIsBounded};
-ghost use Rattle.reading_stages.specs.FileBases.{base_of_file, theory_at};
+ghost use Rattle.stage_definitions.specs.FileBases.{base_of_file, theory_at};
 ghost use Rattle.type_derivation.specs.TypedViews.{typed_view};
 ghost use Rattle.def_ground.specs.Groundings.{IsGroundTheory, TermsAreBounded};
 ghost use Rattle.open_sizes.specs.Fits.{WeighingFits};

@@ -1,21 +1,21 @@
 //! The stages of reading up to the data, for each knowledge base.
 ghost use Rattle.std.specs.Prelude.{◌<◌, IfOk, length};
-ghost use Rattle.reading_stages.specs.FileView.{file_in};
-ghost use Rattle.reading_stages.specs.Files.{File};
+ghost use Rattle.stage_definitions.specs.FileView.{file_in};
+ghost use Rattle.stage_definitions.specs.Files.{File};
 ghost use Rattle.type_derivation.specs.TypedViews.{typed_view};
 ghost use Rattle.narrow_cases.specs.Typed.{HasTypedFile};
 
 use crate::closures::push_narrowed;
+use base_reader::{accepted_can_be_grounded, accepted_is_bounded};
 use block_choice::pick;
-use file_bases::{accepted_can_be_grounded, accepted_is_bounded};
 use fo_reader::read_kb;
-use fo_syntax::{KbError, RawKb, RawStructure};
+use grammar::{KbError, RawKb, RawStructure};
 use kb_logic::Memory;
 use kb_names::resolve;
+use reading_laws::derived_is_well_formed;
 use std::alloc::Global;
 use structure_reader::read_data;
 use type_derivation::{TypedKb, derive};
-use typing_laws::derived_is_well_formed;
 
 /// Pushes the line of a base that some stage refuses.
 fn push_refused(e: KbError, out: &mut Vec<u8>) -> Result<(), Memory> {

@@ -13,7 +13,7 @@ use Rattle.open_sizes.specs.Fits.{WeighingFits}
 use Rattle.open_sizes.specs.Laws.{SmallBasesFit}
 use Rattle.open_sizes.specs.OpenWeights.{open_weight, terms_in}
 use Rattle.def_ground.specs.Groundings.{IsGroundTheory, TermsAreBounded}
-use Rattle.reading_stages.specs.SizesStage.{open_limit}
+use Rattle.stage_definitions.specs.SizesStage.{open_limit}
 use Rattle.narrowed_bases.specs.Narrowings.{IsLight}
 use Rattle.narrowed_bases.proofs.Grounded.{narrowed_bounded, narrowed_data}
 use Rattle.narrowed_bases.proofs.Typed.{heads_plain}

@@ -6,7 +6,7 @@ use Rattle.bound_laws.proofs.One.{one_narrowed}
 use Rattle.open_sizes.specs.OpenWeights.{base_weight, open_weight}
 use Rattle.def_ground.specs.Groundings.{theory_problem}
 use Rattle.narrowed_bases.specs.Laws.{LightOrHeavy, OneProblem}
-use Rattle.reading_stages.specs.SizesStage.{open_limit}
+use Rattle.stage_definitions.specs.SizesStage.{open_limit}
 use Rattle.narrowed_bases.specs.Narrowings.{IsNarrowing, grounded_base}
 use Rattle.narrowed_bases.specs.declared.narrowings.Narrowing.{Narrowing}
 use Rattle.narrowed_bases.specs.declared.narrowings.Narrowing.TheVariants.{Plain, Narrowed, Contradiction}

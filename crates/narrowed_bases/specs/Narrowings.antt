@@ -3,7 +3,7 @@ use Rattle.std.specs.Prelude.{◌≡◌, ℕ, ◌≤◌, ◌<◌, [], ◌∷◌,
 use Rattle.kb_logic.specs.Bases.{Base, NamedTerm}
 use Rattle.kb_logic.specs.KnownAtoms.{KnownAtoms}
 use Rattle.kb_logic.specs.Trees.{integer, falsum}
-use Rattle.reading_stages.specs.SizesStage.{open_limit}
+use Rattle.stage_definitions.specs.SizesStage.{open_limit}
 use Rattle.bound_laws.specs.Closures.{IsNarrowed, IsContradictory}
 use Rattle.open_sizes.specs.OpenWeights.{base_weight, open_weight}
 use Rattle.ground_core.specs.Problems.{ProblemState}

@@ -1,12 +1,12 @@
 //! The data of a knowledge base, narrowed before it is grounded.
 ghost use Rattle.std.specs.Prelude.{◌≡◌, ◌≤◌, ◌<◌, ◌^◌, length, IfOk, IfErr};
 ghost use Rattle.kb_logic.specs.Bounds.{TheoryIsBounded};
-ghost use Rattle.reading_stages.specs.FileBases.{base_of_file, theory_at};
+ghost use Rattle.stage_definitions.specs.FileBases.{base_of_file, theory_at};
 ghost use Rattle.type_derivation.specs.TypedViews.{typed_view};
 ghost use Rattle.def_ground.specs.Groundings.{IsGroundTheory, TermsAreBounded};
 ghost use Rattle.open_sizes.specs.Fits.{WeighingFits};
 ghost use Rattle.open_sizes.specs.OpenWeights.{open_weight, terms_in};
-ghost use Rattle.reading_stages.specs.SizesStage.{open_limit};
+ghost use Rattle.stage_definitions.specs.SizesStage.{open_limit};
 ghost use Rattle.narrowed_bases.specs.Narrowings.{IsNarrowing, IsLight, IsTooOpen};
 ghost use Rattle.narrowed_bases.specs.declared.errors.NarrowError.TheVariants.{TooLarge};
 ghost use Rattle.narrowed_bases.specs.declared.narrowings.Narrowing.TheVariants.{Narrowed};

@@ -2,16 +2,16 @@
 ghost use Rattle.std.specs.Prelude.{◌≡◌, ◌≤◌, ◌<◌, ◌^◌, length, map};
 ghost use Rattle.kb_logic.specs.Bases.{NamedTerm};
 ghost use Rattle.kb_logic.specs.Views.{theory_view};
-ghost use Rattle.reading_stages.specs.FileBases.{base_of_file, theory_at};
-ghost use Rattle.reading_stages.specs.SizesStage.{capped};
+ghost use Rattle.stage_definitions.specs.FileBases.{base_of_file, theory_at};
+ghost use Rattle.stage_definitions.specs.SizesStage.{capped};
 ghost use Rattle.type_derivation.specs.TypedViews.{typed_view};
 ghost use Rattle.open_sizes.specs.Fits.{WeighingFits};
 ghost use Rattle.open_sizes.specs.OpenWeights.{base_weight, open_weight as weight_of_open, terms_in};
 
 use kb_logic::Theory;
-use kb_sizes::weight;
 use open_sizes::open_weight;
 use partial_structures::Partial;
+use size_stage::weight;
 use std::alloc::Global;
 use type_derivation::TypedKb;
 

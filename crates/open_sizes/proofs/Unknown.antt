@@ -1,5 +1,6 @@
 -- The unknown atoms are those of each symbol, which are those of each tuple.
-use Rattle.std.proofs.Common.{◌≡◌, ◌<◌, ◌≤◌, ℕ, zero, suc, ◌+◌, true, if◌then◌else◌, List, [], ◌∷◌, ◌++◌, map, length, drop}
+use Rattle.std.proofs.Common.{◌≡◌, ◌<◌, ◌≤◌, ℕ, zero, suc, ◌+◌, true, if◌then◌else◌, List, [], ◌∷◌, ◌++◌, map, length}
+use Rattle.std.proofs.Common.{drop}
 use Rattle.std.proofs.Common.{get_or, slice_get, Option, None, Some, refl, sym, ap, ◌∙◌, append_assoc, arith}
 use Rattle.std.specs.List.{sum_by, enumerate_from}
 use Rattle.std.specs.Option.{option_map_or}
@@ -16,7 +17,7 @@ use Rattle.kb_logic.proofs.Assignments.{before}
 use Rattle.kb_logic.proofs.Atoms.{tuple_elements}
 use Rattle.kb_logic.proofs.Has.{Has, contains_from, enumerated_has}
 use Rattle.kb_logic.proofs.Pairs.{sum_by-pairs}
-use Rattle.reading_stages.specs.SizesStage.{capped}
+use Rattle.stage_definitions.specs.SizesStage.{capped}
 use Rattle.partial_structures.specs.Applications.{arguments_typed, value_typed, result_typed, outside_value}
 use Rattle.partial_structures.specs.Applications.{atom_certain, value_certain}
 use Rattle.partial_structures.specs.Known.{start_of, stepped, spot_of}
@@ -26,7 +27,7 @@ use Rattle.partial_structures.specs.declared.truths.Truth.{Truth}
 use Rattle.partial_structures.specs.declared.truths.Truth.TheVariants as truth
 use Rattle.partial_structures.proofs.Walks.{stands_is, typed_tuple}
 use Rattle.quantifier_bounds.specs.Steps.{is_unknown, unknown_atoms}
-use Rattle.kb_sizes.proofs.Capping.{Same, part_next, last_part}
+use Rattle.size_stage.proofs.Capping.{Same, part_next, last_part}
 use Rattle.open_sizes.specs.Atoms.{open_in_symbol, open_in_tuples, open_in_values}
 use Rattle.open_sizes.specs.OpenWeights.{where_open}
 use Rattle.open_sizes.proofs.Sums.{sum-map, sum-flat, sum-same}

@@ -11,9 +11,9 @@ use Rattle.kb_logic.specs.KnownAtoms.{KnownAtoms}
 use Rattle.kb_logic.specs.Structures.{choices}
 use Rattle.kb_logic.specs.Trees.{TermTree, aggregate, FormulaTree}
 use Rattle.kb_logic.specs.Weights.{application_count}
-use Rattle.reading_stages.specs.SizesStage.{capped}
+use Rattle.stage_definitions.specs.SizesStage.{capped}
 use Rattle.certain_truth.specs.Certainty.{known_value}
-use Rattle.kb_sizes.proofs.Capping.{again, times_same}
+use Rattle.size_stage.proofs.Capping.{again, times_same}
 use Rattle.open_sizes.specs.OpenWeights.{open_occurrences, open_in_term}
 
 -- a count that grows by one number for each item, and stops at each step

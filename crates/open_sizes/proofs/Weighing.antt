@@ -15,7 +15,7 @@ use Rattle.certain_truth.specs.Certainty.{certain_truth, truth_if}
 use Rattle.certain_truth.specs.Evaluation.{joined, settles}
 use Rattle.certain_truth.proofs.Connected.{joined_unit, settled_stays}
 use Rattle.quantifier_bounds.specs.Steps.{is_unknown}
-use Rattle.reading_stages.specs.SizesStage.{capped}
+use Rattle.stage_definitions.specs.SizesStage.{capped}
 use Rattle.open_sizes.specs.declared.connectives.Joining.{Joining}
 use Rattle.open_sizes.specs.declared.connectives.Joining.TheVariants.{Conjunction, Disjunction, Survey}
 use Rattle.open_sizes.specs.declared.weighed.Weighed.{Weighed}

@@ -7,7 +7,7 @@ use Rattle.kb_logic.specs.Trees.{FormulaTree}
 use Rattle.partial_structures.specs.declared.truths.Truth.{Truth}
 use Rattle.certain_truth.specs.Certainty.{certain_truth}
 use Rattle.certain_truth.specs.Evaluation.{settles}
-use Rattle.reading_stages.specs.SizesStage.{capped}
+use Rattle.stage_definitions.specs.SizesStage.{capped}
 use Rattle.open_sizes.specs.OpenWeights.{open_occurrences}
 use Rattle.open_sizes.specs.declared.connectives.Joining.{Joining}
 use Rattle.open_sizes.specs.declared.connectives.Joining.TheVariants.{Conjunction, Disjunction, Survey}

@@ -2,7 +2,7 @@
 ghost use Rattle.std.specs.Prelude.{◌≡◌, ◌≤◌, ◌^◌, IfOk, List, Some, length, slice_get, sum_by};
 ghost use Rattle.kb_logic.specs.Denotations.{Denotation};
 ghost use Rattle.partial_structures.specs.Known.{known_in, place_view, spot_of};
-ghost use Rattle.reading_stages.specs.SizesStage.{capped};
+ghost use Rattle.stage_definitions.specs.SizesStage.{capped};
 ghost use Rattle.quantifier_bounds.specs.Steps.{unknown_atoms};
 ghost use Rattle.open_sizes.specs.Atoms.{open_in_symbol, open_in_tuples, open_in_values};
 ghost use Rattle.open_sizes.specs.OpenWeights.{where_open};
@@ -10,9 +10,9 @@ ghost use Rattle.open_sizes.specs.OpenWeights.{where_open};
 use crate::connectives::is_open;
 use kb_logic::values::{domain_in, elem_value};
 use kb_logic::{Memory, Symbol};
-use kb_sizes::capped::plus;
 use partial_structures::lookups::{atom_truth, next, start, value_truth};
 use partial_structures::{Known, Partial, Place, Truth};
+use size_stage::capped::plus;
 use std::alloc::Global;
 
 fn one_if_open(truth: Truth) -> u64

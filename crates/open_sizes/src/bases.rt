@@ -4,7 +4,7 @@ ghost use Rattle.std.specs.List.{AllByRecursion};
 ghost use Rattle.kb_logic.specs.Views.{definition_view, formula_view, rule_view, term_view, theory_view};
 ghost use Rattle.kb_logic.specs.Trees.{DefinitionTree};
 ghost use Rattle.certain_truth.specs.KnownArithmetic.{CertaintyFits, ValueFits};
-ghost use Rattle.reading_stages.specs.SizesStage.{capped};
+ghost use Rattle.stage_definitions.specs.SizesStage.{capped};
 ghost use Rattle.type_derivation.specs.TypedViews.{named_term_view};
 ghost use Rattle.open_sizes.specs.Fits.{BodyFits, WeighingFits};
 ghost use Rattle.open_sizes.specs.OpenWeights.{open_in_asked, open_in_body, open_in_definition, open_in_rule};
@@ -15,8 +15,8 @@ use crate::occurrences::in_asked;
 use crate::outermost::{in_instances, in_sentence};
 use crate::setting::{Setting, choices_of};
 use kb_logic::{Definition, Formula, Rule, Term, Theory, Vocabulary};
-use kb_sizes::capped::{plus, times};
 use partial_structures::Partial;
+use size_stage::capped::{plus, times};
 use std::alloc::Global;
 use type_derivation::Named;
 

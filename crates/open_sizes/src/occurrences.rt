@@ -10,7 +10,7 @@ ghost use Rattle.certain_truth.specs.Certainty.{certain_truth};
 ghost use Rattle.certain_truth.specs.Evaluation.{parts_of};
 ghost use Rattle.certain_truth.specs.Evaluation.{joined as joined_truth};
 ghost use Rattle.certain_truth.specs.KnownArithmetic.{CertaintyFits, OperandsFit, PartsFit, ValueFits, ValuesFit};
-ghost use Rattle.reading_stages.specs.SizesStage.{capped};
+ghost use Rattle.stage_definitions.specs.SizesStage.{capped};
 ghost use Rattle.open_sizes.specs.OpenWeights.{open_in_asked, open_in_parts, open_in_summands, open_in_term};
 ghost use Rattle.open_sizes.specs.OpenWeights.{open_in_terms, open_occurrences, where_open};
 ghost use Rattle.open_sizes.specs.Weighings.{is_all, is_over, IsWeighed};
@@ -19,9 +19,9 @@ use crate::connectives::{Joining, is_false, is_open, is_over};
 use crate::setting::{Setting, all_applications, applications, certain_in, choices_of, is_known};
 use crate::weighed::{Weighed, certain, denied, equated, implied, joined, none_yet, settled};
 use kb_logic::{Bound, Formula, Signed, Term};
-use kb_sizes::capped::{plus, times};
 use partial_structures::Truth;
 use plain_evaluation::environments::{Env, extend, split_in};
+use size_stage::capped::{plus, times};
 
 /// The open occurrences in a term.
 #[cycle(occurrences)]

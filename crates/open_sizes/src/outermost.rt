@@ -10,7 +10,7 @@ ghost use Rattle.certain_truth.specs.Evaluation.{joined as joined_truth};
 ghost use Rattle.certain_truth.specs.KnownArithmetic.{CertaintyFits};
 ghost use Rattle.row_ranges.specs.Leads.{IsInOrder, Leads};
 ghost use Rattle.known_guards.specs.Guards.{IsRuledOut};
-ghost use Rattle.reading_stages.specs.SizesStage.{capped};
+ghost use Rattle.stage_definitions.specs.SizesStage.{capped};
 ghost use Rattle.open_sizes.specs.OpenWeights.{open_occurrences};
 ghost use Rattle.open_sizes.specs.Weighings.{is_all, is_over, IsWeighed};
 

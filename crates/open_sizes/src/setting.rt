@@ -7,15 +7,15 @@ ghost use Rattle.kb_logic.specs.Weights.{application_count, applications_count};
 ghost use Rattle.plain_evaluation.specs.Environments.{env_view};
 ghost use Rattle.certain_truth.specs.Certainty.{certain_truth, known_value};
 ghost use Rattle.certain_truth.specs.KnownArithmetic.{CertaintyFits, ValueFits};
-ghost use Rattle.reading_stages.specs.SizesStage.{capped};
+ghost use Rattle.stage_definitions.specs.SizesStage.{capped};
 
 use certain_truth::{certain_formula, known_term};
 use kb_logic::{Bound, Formula, Term, Vocabulary};
-use kb_sizes::applications::{in_term, in_terms};
-use kb_sizes::counts::assignments;
-use kb_sizes::domains::Domains;
 use partial_structures::{Partial, Truth};
 use plain_evaluation::environments::Env;
+use size_stage::applications::{in_term, in_terms};
+use size_stage::counts::assignments;
+use size_stage::domains::Domains;
 
 /// A vocabulary, and what is known of the atoms over it.
 #[derive(Clone, Copy)]

@@ -6,13 +6,13 @@ ghost use Rattle.kb_logic.specs.KnownAtoms.{KnownAtoms};
 ghost use Rattle.kb_logic.specs.Trees.{equivalence, FormulaTree, implication, negation};
 ghost use Rattle.certain_truth.specs.Certainty.{truth_if};
 ghost use Rattle.certain_truth.specs.Evaluation.{joined as joined_truth};
-ghost use Rattle.reading_stages.specs.SizesStage.{capped};
+ghost use Rattle.stage_definitions.specs.SizesStage.{capped};
 ghost use Rattle.open_sizes.specs.OpenWeights.{where_open};
 ghost use Rattle.open_sizes.specs.Weighings.{is_all, IsWeighed};
 
 use crate::connectives::{Joining, alike, is_all, is_open, join, negate, truth_of};
-use kb_sizes::capped::plus;
 use partial_structures::Truth;
+use size_stage::capped::plus;
 
 /// What is certain of a formula or of several, and their open occurrences.
 #[derive(Clone, Copy)]

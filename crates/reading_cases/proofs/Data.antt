@@ -5,18 +5,18 @@ use Rattle.std.proofs.lemmas.Option.{slice_get-map}
 use Rattle.std.specs.String.{string_bytes}
 use Rattle.std.specs.declared.string.String.{String}
 use Rattle.std.specs.declared.alloc.Global.{Global}
-use Rattle.fo_syntax.specs.declared.raw_blocks.RawKb.{RawKb}
-use Rattle.fo_syntax.specs.declared.raw_blocks.RawStructure.{RawStructure}
-use Rattle.fo_syntax.specs.BlockTrees.{Structure}
-use Rattle.fo_syntax.specs.BlockView.{structure_view}
-use Rattle.fo_syntax.specs.FileReads.{KbRead}
-use Rattle.reading_stages.specs.Files.{File}
-use Rattle.reading_stages.specs.FileView.{file_in}
-use Rattle.reading_stages.specs.BlocksStage.{IsPicked}
-use Rattle.reading_stages.specs.Numbering.{IsNamed, NamedFile}
-use Rattle.reading_stages.specs.TypesStage.{IsTyped}
-use Rattle.reading_stages.specs.TypedFiles.{TypedFile}
-use Rattle.reading_stages.proofs.OneFile.{one_file}
+use Rattle.grammar.specs.declared.raw_blocks.RawKb.{RawKb}
+use Rattle.grammar.specs.declared.raw_blocks.RawStructure.{RawStructure}
+use Rattle.grammar.specs.BlockTrees.{Structure}
+use Rattle.grammar.specs.BlockView.{structure_view}
+use Rattle.grammar.specs.FileReads.{KbRead}
+use Rattle.stage_definitions.specs.Files.{File}
+use Rattle.stage_definitions.specs.FileView.{file_in}
+use Rattle.stage_definitions.specs.BlocksStage.{IsPicked}
+use Rattle.stage_definitions.specs.Numbering.{IsNamed, NamedFile}
+use Rattle.stage_definitions.specs.TypesStage.{IsTyped}
+use Rattle.stage_definitions.specs.TypedFiles.{TypedFile}
+use Rattle.stage_definitions.proofs.OneFile.{one_file}
 use Rattle.reading_cases.specs.Lines.{IsChosenLine, IsDataLine, IsMeasuredLine, IsReadAs}
 
 -- the raw structure with a number stands for the text's structure with that number

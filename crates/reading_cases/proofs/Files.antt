@@ -3,10 +3,10 @@ use Rattle.std.proofs.Common.{◌≡◌, ℕ, List, length, Result, Ok, Err, IfO
 use Rattle.std.specs.String.{string_bytes}
 use Rattle.std.specs.declared.string.String.{String}
 use Rattle.std.specs.declared.alloc.Global.{Global}
-use Rattle.fo_syntax.specs.declared.raw_blocks.RawKb.{RawKb}
-use Rattle.fo_syntax.specs.FileReads.{KbRead}
-use Rattle.reading_stages.specs.FileView.{file_in}
-use Rattle.reading_stages.proofs.OneFile.{one_file}
+use Rattle.grammar.specs.declared.raw_blocks.RawKb.{RawKb}
+use Rattle.grammar.specs.FileReads.{KbRead}
+use Rattle.stage_definitions.specs.FileView.{file_in}
+use Rattle.stage_definitions.proofs.OneFile.{one_file}
 use Rattle.reading_cases.specs.Lines.{IsFileOf}
 
 -- what the stages see of the raw file is what they see of the text's blocks

@@ -8,26 +8,26 @@ use Rattle.kb_text.specs.Tokens.{Lexeme, TokensFrom}
 use Rattle.kb_text.specs.declared.fault.KbFault.{KbFault}
 use Rattle.kb_text.specs.declared.token.Kind.{Kind}
 use Rattle.kb_text.specs.declared.token.Kind.TheVariants.{Word, Int, Sign, Procedure}
-use Rattle.fo_syntax.specs.Trees.{Formula, Term}
-use Rattle.fo_syntax.specs.Fine.{FineFormula, FineTerm}
-use Rattle.fo_syntax.specs.Spelling.{put_formula, put_term}
-use Rattle.fo_syntax.specs.Whole.{Reads}
-use Rattle.fo_syntax.specs.BlockTrees.{Block, Structure}
-use Rattle.fo_syntax.specs.BlockView.{as_vocabulary, as_theory, as_structure, as_term_block}
-use Rattle.fo_syntax.specs.FileReads.{KbReads}
-use Rattle.reading_stages.specs.Scopes.{Text}
-use Rattle.reading_stages.specs.Earliest.{IsEarliest}
-use Rattle.reading_stages.specs.Files.{File}
-use Rattle.reading_stages.specs.FileTrees.{file_of}
-use Rattle.reading_stages.specs.BlocksStage.{block_uses, BlocksRefuse, IsPicked}
-use Rattle.reading_stages.specs.NamesStage.{NamesRefuse}
-use Rattle.reading_stages.specs.Numbering.{IsNamed, NamedFile}
-use Rattle.reading_stages.specs.TypesStage.{TypesRefuse, IsTyped}
-use Rattle.reading_stages.specs.TypedFiles.{TypedFile}
+use Rattle.grammar.specs.Trees.{Formula, Term}
+use Rattle.grammar.specs.Fine.{FineFormula, FineTerm}
+use Rattle.grammar.specs.Spelling.{put_formula, put_term}
+use Rattle.grammar.specs.Whole.{Reads}
+use Rattle.grammar.specs.BlockTrees.{Block, Structure}
+use Rattle.grammar.specs.BlockView.{as_vocabulary, as_theory, as_structure, as_term_block}
+use Rattle.grammar.specs.FileReads.{KbReads}
+use Rattle.stage_definitions.specs.Scopes.{Text}
+use Rattle.stage_definitions.specs.Earliest.{IsEarliest}
+use Rattle.stage_definitions.specs.Files.{File}
+use Rattle.stage_definitions.specs.FileTrees.{file_of}
+use Rattle.stage_definitions.specs.BlocksStage.{block_uses, BlocksRefuse, IsPicked}
+use Rattle.stage_definitions.specs.NamesStage.{NamesRefuse}
+use Rattle.stage_definitions.specs.Numbering.{IsNamed, NamedFile}
+use Rattle.stage_definitions.specs.TypesStage.{TypesRefuse, IsTyped}
+use Rattle.stage_definitions.specs.TypedFiles.{TypedFile}
 use Rattle.kb_logic.specs.KnownAtoms.{KnownAtoms}
-use Rattle.reading_stages.specs.DataStage.{StructureRefuses}
-use Rattle.reading_stages.specs.DataAnswer.{IsDataOf}
-use Rattle.reading_stages.specs.SizesStage.{Sizes, SizesRefuse, size_uses, AreSizesOf}
+use Rattle.stage_definitions.specs.DataStage.{StructureRefuses}
+use Rattle.stage_definitions.specs.DataAnswer.{IsDataOf}
+use Rattle.stage_definitions.specs.SizesStage.{Sizes, SizesRefuse, size_uses, AreSizesOf}
 use Rattle.reading_cases.specs.Cases.{call_for, first_line, further_lines}
 use Rattle.reading_cases.specs.declared.calls.Call.{Call}
 use Rattle.reading_cases.specs.declared.calls.Call.TheVariants as call

@@ -5,18 +5,19 @@ use Rattle.std.proofs.Math.Seq.{take-suc}
 use Rattle.std.specs.List.{flat_map}
 use Rattle.std.proofs.lemmas.Grind.{flat_map-append}
 use Rattle.std.proofs.lemmas.List.{append_assoc, map-append}
-use Rattle.fo_syntax.specs.Trees as raw
-use Rattle.fo_syntax.specs.BlockTrees.{Binding, Head}
-use Rattle.fo_syntax.specs.BlockView.{binding_view}
-use Rattle.fo_syntax.specs.View.{terms_of}
-use Rattle.fo_syntax.specs.declared.raw_blocks.RawBinder.{RawBinder}
-use Rattle.reading_stages.specs.NamedTrees.{NamedTerm, NamedVar}
-use Rattle.reading_stages.specs.Names.{Names}
-use Rattle.reading_stages.specs.NamesStage.{name_noted}
-use Rattle.reading_stages.specs.Numbering.{head_arguments, named_term, named_var}
-use Rattle.reading_stages.specs.Scopes.{Text}
-use Rattle.reading_stages.specs.Uses.{Context, Use, arguments_in, head_app, head_use, in_scope, rule_scope, rule_vars}
-use Rattle.reading_stages.specs.Uses.{terms_in, uses_of_vars, var_text, vars_bound}
+use Rattle.grammar.specs.Trees as raw
+use Rattle.grammar.specs.BlockTrees.{Binding, Head}
+use Rattle.grammar.specs.BlockView.{binding_view}
+use Rattle.grammar.specs.View.{terms_of}
+use Rattle.grammar.specs.declared.raw_blocks.RawBinder.{RawBinder}
+use Rattle.stage_definitions.specs.NamedTrees.{NamedTerm, NamedVar}
+use Rattle.stage_definitions.specs.Names.{Names}
+use Rattle.stage_definitions.specs.NamesStage.{name_noted}
+use Rattle.stage_definitions.specs.Numbering.{head_arguments, named_term, named_var}
+use Rattle.stage_definitions.specs.Scopes.{Text}
+use Rattle.stage_definitions.specs.Uses.{Context, Use, arguments_in, head_app, head_use, in_scope, rule_scope}
+use Rattle.stage_definitions.specs.Uses.{rule_vars}
+use Rattle.stage_definitions.specs.Uses.{terms_in, uses_of_vars, var_text, vars_bound}
 use Rattle.formula_names.specs.Steps.{IsStep, context_of, names_known}
 use Rattle.formula_names.specs.declared.resolver.Resolver.{Resolver}
 use Rattle.formula_names.proofs.Operands.{argument_named}

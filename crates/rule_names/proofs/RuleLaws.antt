@@ -4,17 +4,17 @@ use Rattle.std.proofs.Common.{ap, fold, refl}
 use Rattle.std.specs.List.{flat_map}
 use Rattle.std.proofs.lemmas.List.{append_assoc, length-map}
 use Rattle.kb_text.specs.declared.fault.KbFault.{KbFault}
-use Rattle.fo_syntax.specs.Trees.{App, Formula, Term}
-use Rattle.fo_syntax.specs.BlockTrees.{Binding, value_head, rule}
-use Rattle.reading_stages.specs.NamedTrees.{NamedRule}
-use Rattle.reading_stages.specs.Names.{Names}
-use Rattle.reading_stages.specs.NamesStage.{name_noted}
-use Rattle.reading_stages.specs.Numbering.{named_rule, value_equation, valued_body}
-use Rattle.reading_stages.specs.Numbering.{valued_rule}
-use Rattle.reading_stages.specs.Scopes.{Text}
-use Rattle.reading_stages.specs.Uses.{Context, Use, app_name, arguments_in, head_use, in_scope}
-use Rattle.reading_stages.specs.Uses.{is_simple, rule_scope, uses_in_rule, value_scope}
-use Rattle.reading_stages.specs.Uses.{written_body}
+use Rattle.grammar.specs.Trees.{App, Formula, Term}
+use Rattle.grammar.specs.BlockTrees.{Binding, value_head, rule}
+use Rattle.stage_definitions.specs.NamedTrees.{NamedRule}
+use Rattle.stage_definitions.specs.Names.{Names}
+use Rattle.stage_definitions.specs.NamesStage.{name_noted}
+use Rattle.stage_definitions.specs.Numbering.{named_rule, value_equation, valued_body}
+use Rattle.stage_definitions.specs.Numbering.{valued_rule}
+use Rattle.stage_definitions.specs.Scopes.{Text}
+use Rattle.stage_definitions.specs.Uses.{Context, Use, app_name, arguments_in, head_use, in_scope}
+use Rattle.stage_definitions.specs.Uses.{is_simple, rule_scope, uses_in_rule, value_scope}
+use Rattle.stage_definitions.specs.Uses.{written_body}
 use Rattle.formula_names.specs.Steps.{IsStep, context_of, names_known}
 use Rattle.formula_names.specs.declared.resolver.Resolver.{Resolver}
 use Rattle.formula_names.proofs.ChainEnds.{noted_twice}

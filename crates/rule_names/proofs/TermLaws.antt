@@ -1,12 +1,12 @@
 -- Terms that are one factor, and where terms begin.
 use Rattle.std.proofs.Common.{◌≡◌, ◌&&◌, ℕ, List, [], ◌∷◌, refl}
-use Rattle.fo_syntax.specs.Trees.{Factor, Product, Term, brackets, factor, product, sum, times}
-use Rattle.fo_syntax.specs.View.{factor_view, product_of, term_of, term_view}
-use Rattle.fo_syntax.specs.declared.raw.RawTermTree.{RawTermTree}
-use Rattle.fo_syntax.specs.declared.terminal.Adding.{Adding}
-use Rattle.reading_stages.specs.Names.{Names}
-use Rattle.reading_stages.specs.Scopes.{Text}
-use Rattle.reading_stages.specs.Uses.{is_integer, is_simple, is_simple_factor, place_of_factor, place_of_term}
+use Rattle.grammar.specs.Trees.{Factor, Product, Term, brackets, factor, product, sum, times}
+use Rattle.grammar.specs.View.{factor_view, product_of, term_of, term_view}
+use Rattle.grammar.specs.declared.raw.RawTermTree.{RawTermTree}
+use Rattle.grammar.specs.declared.terminal.Adding.{Adding}
+use Rattle.stage_definitions.specs.Names.{Names}
+use Rattle.stage_definitions.specs.Scopes.{Text}
+use Rattle.stage_definitions.specs.Uses.{is_integer, is_simple, is_simple_factor, place_of_factor, place_of_term}
 use Rattle.formula_names.specs.PartStandings.{is_lone}
 use Rattle.formula_names.proofs.LoneTerms.{first_factor, later_factors, later_products, seen_as}
 use Rattle.rule_names.specs.Alone.{is_integer_alone}

@@ -1,7 +1,7 @@
 -- Terms that are one factor.
 use Rattle.std.specs.Prelude.{Bool, false}
-use Rattle.fo_syntax.specs.Trees.{Term, product, sum, factor, times}
-use Rattle.reading_stages.specs.Uses.{is_integer}
+use Rattle.grammar.specs.Trees.{Term, product, sum, factor, times}
+use Rattle.stage_definitions.specs.Uses.{is_integer}
 
 -- an integer, in brackets or not
 abbrev pub is_integer_alone : Term → Bool

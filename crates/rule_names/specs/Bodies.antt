@@ -1,17 +1,18 @@
 -- The body of a rule, and the rule that it makes with a head and its value.
 use Rattle.std.specs.Prelude.{◌≡◌, Bool, true, false, is_some, List, length, ◌++◌, fold, Option, Some, None}
 use Rattle.std.specs.Option.{option_map}
-use Rattle.fo_syntax.specs.BlockView.{body_view}
-use Rattle.fo_syntax.specs.Trees.{Name, Formula, Term}
-use Rattle.fo_syntax.specs.declared.raw_blocks.RawBody.{RawBody}
-use Rattle.reading_stages.specs.NamedTrees as named
-use Rattle.reading_stages.specs.NamedTrees.{NamedFormula, NamedRule, at, more_formulas, no_formulas}
-use Rattle.reading_stages.specs.Names.{Names}
-use Rattle.reading_stages.specs.NamesStage.{name_noted}
-use Rattle.reading_stages.specs.Numbering.{named_body, named_formula, named_term, valued_body}
-use Rattle.reading_stages.specs.Scopes.{Text}
-use Rattle.reading_stages.specs.declared.standings.Standing.TheVariants.{Side}
-use Rattle.reading_stages.specs.Uses.{Context, Use, body_uses, place_of_term, uses_in_term, value_scope, written_body}
+use Rattle.grammar.specs.BlockView.{body_view}
+use Rattle.grammar.specs.Trees.{Name, Formula, Term}
+use Rattle.grammar.specs.declared.raw_blocks.RawBody.{RawBody}
+use Rattle.stage_definitions.specs.NamedTrees as named
+use Rattle.stage_definitions.specs.NamedTrees.{NamedFormula, NamedRule, at, more_formulas, no_formulas}
+use Rattle.stage_definitions.specs.Names.{Names}
+use Rattle.stage_definitions.specs.NamesStage.{name_noted}
+use Rattle.stage_definitions.specs.Numbering.{named_body, named_formula, named_term, valued_body}
+use Rattle.stage_definitions.specs.Scopes.{Text}
+use Rattle.stage_definitions.specs.declared.standings.Standing.TheVariants.{Side}
+use Rattle.stage_definitions.specs.Uses.{Context, Use, body_uses, place_of_term, uses_in_term, value_scope}
+use Rattle.stage_definitions.specs.Uses.{written_body}
 use Rattle.formula_names.specs.Steps.{names_known}
 use Rattle.formula_names.specs.declared.resolver.Resolver.{Resolver}
 use Rattle.rule_names.specs.Heads.{HeadTree, closed, var_for, with_var}

@@ -1,16 +1,16 @@
 -- A rule's head with numbers for words, and the rule that it makes with a value and a body.
 use Rattle.std.specs.Prelude.{ℕ, Bool, List, [], ◌∷◌, ◌++◌, map, Option, None}
 use Rattle.std.specs.List.{flat_map}
-use Rattle.fo_syntax.specs.Trees.{Name, Term}
-use Rattle.fo_syntax.specs.BlockTrees.{Binding, Head, atom_head, value_head}
-use Rattle.reading_stages.specs.NamedTrees.{NamedVar, NamedTerm, NamedFormula, NamedRule}
-use Rattle.reading_stages.specs.NamedViews.{term_view, var_view}
-use Rattle.reading_stages.specs.Names.{Names, text_of}
-use Rattle.reading_stages.specs.Numbering.{function_at, head_arguments, named_var, predicate_at}
-use Rattle.reading_stages.specs.Scopes.{Text}
-use Rattle.reading_stages.specs.declared.standings.Standing.TheVariants.{Elsewhere}
-use Rattle.reading_stages.specs.Uses.{Context, Use, head_argument, head_app, place_of_term, rule_scope, rule_vars}
-use Rattle.reading_stages.specs.Uses.{arguments_in, head_use, uses_in_term, uses_of_vars, vars_bound}
+use Rattle.grammar.specs.Trees.{Name, Term}
+use Rattle.grammar.specs.BlockTrees.{Binding, Head, atom_head, value_head}
+use Rattle.stage_definitions.specs.NamedTrees.{NamedVar, NamedTerm, NamedFormula, NamedRule}
+use Rattle.stage_definitions.specs.NamedViews.{term_view, var_view}
+use Rattle.stage_definitions.specs.Names.{Names, text_of}
+use Rattle.stage_definitions.specs.Numbering.{function_at, head_arguments, named_var, predicate_at}
+use Rattle.stage_definitions.specs.Scopes.{Text}
+use Rattle.stage_definitions.specs.declared.standings.Standing.TheVariants.{Elsewhere}
+use Rattle.stage_definitions.specs.Uses.{Context, Use, head_argument, head_app, place_of_term, rule_scope, rule_vars}
+use Rattle.stage_definitions.specs.Uses.{arguments_in, head_use, uses_in_term, uses_of_vars, vars_bound}
 use Rattle.rule_names.specs.declared.heads.RuleHead.{RuleHead}
 
 -- a head: the rule's variables, the number of its symbol, and its arguments

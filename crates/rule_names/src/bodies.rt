@@ -1,12 +1,12 @@
 //! Rules made of a head, its value and a body.
 ghost use Rattle.std.specs.Prelude.{◌≡◌, ◌++◌, ◌∷◌, [], IfOk, OnOk, Some, None, false, is_some, length, true};
 ghost use Rattle.std.specs.Option.{option_map};
-ghost use Rattle.fo_syntax.specs.View as seen;
-ghost use Rattle.reading_stages.specs.NamedTrees as tree;
-ghost use Rattle.reading_stages.specs.NamedViews.{formula_view, rule_view, term_view};
-ghost use Rattle.reading_stages.specs.Numbering as number;
-ghost use Rattle.reading_stages.specs.Uses as use_of;
-ghost use Rattle.reading_stages.specs.Uses.{body_uses, place_of_term, unnamed, value_scope};
+ghost use Rattle.grammar.specs.View as seen;
+ghost use Rattle.stage_definitions.specs.NamedTrees as tree;
+ghost use Rattle.stage_definitions.specs.NamedViews.{formula_view, rule_view, term_view};
+ghost use Rattle.stage_definitions.specs.Numbering as number;
+ghost use Rattle.stage_definitions.specs.Uses as use_of;
+ghost use Rattle.stage_definitions.specs.Uses.{body_uses, place_of_term, unnamed, value_scope};
 ghost use Rattle.formula_names.specs.Steps.{IsStep, context_of, names_known};
 ghost use Rattle.kb_logic.specs.declared.syntax.Cmp.TheVariants as cmp;
 ghost use Rattle.rule_names.specs.Bodies.{body_in, joined, under, uses_behind, valued};
@@ -14,11 +14,11 @@ ghost use Rattle.rule_names.specs.Heads.{closed, head_view, var_for, with_var};
 
 use crate::heads::RuleHead;
 use crate::simple::{is_simple, term_place};
-use fo_syntax::{RawBody, RawName, RawTermTree};
 use formula_names::resolver::Resolver;
+use grammar::{RawBody, RawName, RawTermTree};
 use kb_logic::{Cmp, Memory, Name};
-use reading_stages::{NamedFormula, NamedNode, NamedRule, NamedTerm, NamedVar, Standing};
 use sqlite_items::Items;
+use stage_definitions::{NamedFormula, NamedNode, NamedRule, NamedTerm, NamedVar, Standing};
 use std::alloc::Global;
 
 fn is_written(body: &Option<RawBody>) -> bool

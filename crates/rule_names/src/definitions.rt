@@ -1,25 +1,25 @@
 //! Definitions with numbers for words.
 ghost use Rattle.std.specs.Prelude.{◌≡◌, [], fold, map, IfOk, OnOk};
 ghost use Rattle.std.specs.List.{flat_map};
-ghost use Rattle.fo_syntax.specs.BlockView as block;
-ghost use Rattle.reading_stages.specs.NamedViews.{definition_view, rule_view};
-ghost use Rattle.reading_stages.specs.NamesStage.{name_noted};
-ghost use Rattle.reading_stages.specs.Numbering.{named_rule};
-ghost use Rattle.reading_stages.specs.Uses.{head_word, uses_in_rule};
+ghost use Rattle.grammar.specs.BlockView as block;
+ghost use Rattle.stage_definitions.specs.NamedViews.{definition_view, rule_view};
+ghost use Rattle.stage_definitions.specs.NamesStage.{name_noted};
+ghost use Rattle.stage_definitions.specs.Numbering.{named_rule};
+ghost use Rattle.stage_definitions.specs.Uses.{head_word, uses_in_rule};
 ghost use Rattle.formula_names.specs.Meanings.{names_in};
 ghost use Rattle.formula_names.specs.Steps.{names_known};
 ghost use Rattle.rule_names.specs.Bodies.{IsRuled};
 
 use crate::bodies::{plain_rule, value_rule};
 use crate::heads::{head, head_app};
-use fo_syntax::{RawDefinition, RawHead, RawRule};
 use formula_names::resolver::{Known, Resolver};
 use formula_names::scopes::Scope;
 use formula_names::tables::Table;
 use formula_names::words::app_name;
+use grammar::{RawDefinition, RawHead, RawRule};
 use kb_logic::Memory;
-use reading_stages::{Earliest, NamedDefinition, NamedRule};
 use sqlite_items::Items;
+use stage_definitions::{Earliest, NamedDefinition, NamedRule};
 use std::alloc::Global;
 
 /// The name that a rule defines.

@@ -1,23 +1,23 @@
 //! Heads of rules with numbers for words.
 ghost use Rattle.std.specs.Prelude.{◌≡◌, [], ◌∷◌, ◌++◌, map, IfOk, OnOk};
 ghost use Rattle.std.specs.List.{flat_map};
-ghost use Rattle.fo_syntax.specs.BlockView as block;
-ghost use Rattle.fo_syntax.specs.View as seen;
-ghost use Rattle.reading_stages.specs.NamedViews.{term_view, var_view};
-ghost use Rattle.reading_stages.specs.Numbering.{head_arguments, named_term};
-ghost use Rattle.reading_stages.specs.Uses as use_of;
-ghost use Rattle.reading_stages.specs.Uses.{arguments_in, in_scope, rule_scope};
+ghost use Rattle.grammar.specs.BlockView as block;
+ghost use Rattle.grammar.specs.View as seen;
+ghost use Rattle.stage_definitions.specs.NamedViews.{term_view, var_view};
+ghost use Rattle.stage_definitions.specs.Numbering.{head_arguments, named_term};
+ghost use Rattle.stage_definitions.specs.Uses as use_of;
+ghost use Rattle.stage_definitions.specs.Uses.{arguments_in, in_scope, rule_scope};
 ghost use Rattle.formula_names.specs.Steps.{IsStep, ResolvesTerm, context_of, names_known};
 ghost use Rattle.rule_names.specs.Heads.{argument_uses, head_view, named_head, named_lists, symbol_at, uses_in_head};
 ghost use Rattle.rule_names.specs.Heads.{uses_of_lists};
 
 use crate::simple::{is_simple, term_place};
-use fo_syntax::{RawApp, RawBinder, RawHead, RawRule, RawTermTree};
 use formula_names::resolver::Resolver;
 use formula_names::words::{app_count, app_name};
+use grammar::{RawApp, RawBinder, RawHead, RawRule, RawTermTree};
 use kb_logic::Memory;
 use kb_text::K;
-use reading_stages::{NamedTerm, NamedVar, Standing};
+use stage_definitions::{NamedTerm, NamedVar, Standing};
 
 /// A head: the rule's variables, the number of its symbol, and its arguments.
 #[derive(Drop)]

@@ -1,16 +1,16 @@
 //! What may stand in a head, and where terms begin.
 ghost use Rattle.std.specs.Prelude.{◌≡◌};
-ghost use Rattle.fo_syntax.specs.View.{factor_view, term_view};
-ghost use Rattle.reading_stages.specs.Uses as use_of;
+ghost use Rattle.grammar.specs.View.{factor_view, term_view};
+ghost use Rattle.stage_definitions.specs.Uses as use_of;
 ghost use Rattle.formula_names.specs.Meanings.{meaning_view, names_in};
 ghost use Rattle.rule_names.specs.Alone.{is_integer_alone};
 
-use fo_syntax::{RawFactor, RawTermTree};
 use formula_names::scopes::Scope;
 use formula_names::standings::is_lone;
 use formula_names::tables::{Meaning, Table};
 use formula_names::uses::meaning_at;
 use formula_names::words::{app_count, app_name};
+use grammar::{RawFactor, RawTermTree};
 
 fn is_given(meaning: Meaning) -> bool
     ensures { result ≡ use_of.is_given (meaning_view meaning) }

@@ -1,7 +1,7 @@
 -- That what is printed about a file can be read: the replies to commands, and the structure that is checked.
 use Rattle.std.specs.Prelude.{◌≡◌, ℕ, List, map, Option, Some}
 use Rattle.std.specs.Io.KnownBytes.{Appends}
-use Rattle.block_laws.specs.ReadBack.{IsReadBack}
+use Rattle.printed_texts.specs.ReadBlocks.{IsReadBack}
 use Rattle.base_reader.specs.FileMeanings.{Choice, Meaning, FileMeans, base_of_meaning}
 use Rattle.consult_text.specs.States.{State, first_state}
 use Rattle.consultation.specs.declared.said.Said.{Said}

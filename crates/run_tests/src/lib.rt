@@ -2,4 +2,6 @@
 #![tactic(auto)]
 
 #[cfg(test)]
+mod long_files;
+#[cfg(test)]
 mod tests;

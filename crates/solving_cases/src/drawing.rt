@@ -2,15 +2,15 @@
 ghost use Rattle.std.specs.Prelude.{◌≤◌};
 
 use crate::lines::Draw;
-use compared_solvers::additions::Event;
-use compared_solvers::asking::{Outcome, Sides, Wrong, change, exclude, question, sides_of};
-use compared_solvers::faults::Fault;
-use compared_solvers::problems::{Said, Spoken};
-use compared_solvers::rules::Rule;
 use ground_core::Part;
 use kb_logic::{AggKind, ExtInt};
 use lit_core::{Lit, Var};
-use problem_fixtures::yes;
+use solving_fixtures::yes;
+use solving_judge::additions::Event;
+use solving_judge::asking::{Outcome, Sides, Wrong, change, exclude, question, sides_of};
+use solving_judge::faults::Fault;
+use solving_judge::problems::{Said, Spoken};
+use solving_judge::rules::Rule;
 use std::alloc::{AllocError, Global};
 
 /// How many additions brute force is given beside the atoms.

@@ -1,10 +1,10 @@
 //! What a line says.
 use crate::words::{lit_of, lits_of, numbers_of, parts_of, words_of};
-use compared_solvers::faults::Fault;
-use compared_solvers::problems::Said;
-use compared_solvers::rules::{Rule, rule_of};
 use kb_logic::{AggKind, ExtInt};
 use lit_core::Lit;
+use solving_judge::faults::Fault;
+use solving_judge::problems::Said;
+use solving_judge::rules::{Rule, rule_of};
 use std::alloc::Global;
 
 /// A question, or a change of what is asked.

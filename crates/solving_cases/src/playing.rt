@@ -4,12 +4,12 @@ use crate::lines::{Draw, Line, Step};
 use crate::listing::{count, turns};
 use crate::stores::{blamed, learnt, refutation};
 use crate::texts::{learnt_text, numbers_text, outcome_text, refuted_text, tally_text};
-use compared_solvers::additions::Event;
-use compared_solvers::asking::{Outcome, Sides, change, exclude, limits, question, sides_of};
-use compared_solvers::faults::Fault;
-use compared_solvers::problems::Spoken;
-use compared_solvers::rules::Rule;
 use lit_core::Lit;
+use solving_judge::additions::Event;
+use solving_judge::asking::{Outcome, Sides, change, exclude, limits, question, sides_of};
+use solving_judge::faults::Fault;
+use solving_judge::problems::Spoken;
+use solving_judge::rules::Rule;
 use std::alloc::Global;
 
 /// The most atoms of a problem, since brute force tries all values of them.

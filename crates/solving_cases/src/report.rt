@@ -1,7 +1,7 @@
 //! What is printed of all cases.
 use crate::lines::{Line, line_of};
 use crate::playing::{Play, played};
-use compared_solvers::faults::{Fault, text_of};
+use solving_judge::faults::{Fault, text_of};
 use std::alloc::{AllocError, Global};
 
 /// Adds a line of a number and a text.

@@ -6,10 +6,10 @@ ghost use Rattle.clause_store.specs.StoreState.{IsConflict};
 ghost use Rattle.conflict_analysis.specs.Analyses.{HasCurrent};
 
 use clause_store::Store;
-use compared_solvers::faults::Fault;
-use compared_solvers::problems::{Said, Spoken};
 use conflict_analysis::{Analysis, Refuted, analyse, final_core, root_hints};
 use lit_core::Lit;
+use solving_judge::faults::Fault;
+use solving_judge::problems::{Said, Spoken};
 use std::alloc::Global;
 
 /// Pushes a clause while nothing is assigned.

@@ -1,8 +1,8 @@
 //! What is printed.
 use crate::drawing::Tally;
-use compared_solvers::asking::{Outcome, Wrong};
 use conflict_analysis::{Analysis, Refuted};
 use lit_core::Lit;
+use solving_judge::asking::{Outcome, Wrong};
 use std::alloc::{AllocError, Global};
 
 fn name_of(wrong: Wrong) -> &'static str {

@@ -1,7 +1,7 @@
 //! Words, numbers and literals of a line.
-use compared_solvers::faults::Fault;
 use ground_core::Part;
 use lit_core::{Lit, Var};
+use solving_judge::faults::Fault;
 use std::alloc::{AllocError, Global};
 
 /// The words of a line.

@@ -1,18 +1,18 @@
 -- What an accepted structure says is filled without a clash, and its sizes are those of what it means.
 use Rattle.std.proofs.Common.{◌≡◌, ℕ, List, refl, sym, ap, ◌∙◌, subst, inl, inr}
 use Rattle.kb_logic.specs.KnownAtoms.{KnownAtoms}
-use Rattle.fo_syntax.specs.BlockTrees as raw
-use Rattle.fo_syntax.specs.declared.error.KbError.{KbError}
-use Rattle.fo_syntax.specs.declared.error.KbError.TheVariants.{Refused, Memory}
-use Rattle.reading_stages.specs.DataAnswer.{given_by, IsDataOf}
-use Rattle.reading_stages.specs.DataDomains.{domains_of}
-use Rattle.reading_stages.specs.DataEntries.{Said}
-use Rattle.reading_stages.specs.SizesStage.{Sizes, AreSizesOf}
-use Rattle.reading_stages.specs.TypedFiles.{TypedFile}
-use Rattle.structure_laws.proofs.Rows.{refusals_are_parted}
+use Rattle.grammar.specs.BlockTrees as raw
+use Rattle.grammar.specs.declared.error.KbError.{KbError}
+use Rattle.grammar.specs.declared.error.KbError.TheVariants.{Refused, Memory}
+use Rattle.stage_definitions.specs.DataAnswer.{given_by, IsDataOf}
+use Rattle.stage_definitions.specs.DataDomains.{domains_of}
+use Rattle.stage_definitions.specs.DataEntries.{Said}
+use Rattle.stage_definitions.specs.SizesStage.{Sizes, AreSizesOf}
+use Rattle.stage_definitions.specs.TypedFiles.{TypedFile}
+use Rattle.reading_laws.proofs.Rows.{refusals_are_parted}
 use Rattle.data_domains.specs.declared.types.TypeData.{TypeData}
 use Rattle.data_filling.specs.Filling.{AreAccepted}
-use Rattle.kb_sizes.specs.Measures.{FailsWith}
+use Rattle.size_stage.specs.Measures.{FailsWith}
 use Rattle.structure_reader.specs.DataReads.{DataOrSizesFail, IsAccepted, IsMeasuredData}
 
 pub can_be_filled : (f : TypedFile) (theory : ℕ) (s : raw.Structure) (es : List Said) (types : List TypeData)

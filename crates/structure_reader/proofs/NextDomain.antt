@@ -5,14 +5,14 @@ use Rattle.std.specs.List.{AllByRecursion, enumerate_from}
 use Rattle.std.proofs.lemmas.List.{drop_all, drop_more}
 use Rattle.kb_logic.specs.declared.elements.Elem.{Elem}
 use Rattle.kb_logic.specs.declared.vocabularies.TypeDecl.{TypeDecl}
-use Rattle.reading_stages.specs.Elements as set
-use Rattle.reading_stages.specs.DataEntries.{Said}
-use Rattle.reading_stages.specs.DataDomains.{cells_by, domains_of}
-use Rattle.data_entries.specs.EntryViews.{cell_view}
+use Rattle.stage_definitions.specs.Elements as set
+use Rattle.stage_definitions.specs.DataEntries.{Said}
+use Rattle.stage_definitions.specs.DataDomains.{cells_by, domains_of}
+use Rattle.structure_entries.specs.EntryViews.{cell_view}
 use Rattle.data_domains.specs.TypeSets.{AreTypesOf}
 use Rattle.data_domains.specs.declared.types.TypeData.{TypeData}
 use Rattle.data_domains.proofs.Looked.{some_beside}
-use Rattle.kb_sizes.specs.Counted.{IsCountable}
+use Rattle.size_stage.specs.Counted.{IsCountable}
 
 -- one item more of which each one after it makes all
 pub next_all : {X : Type 0} (P : X → Type 0) (xs : List X) (i : ℕ) (d : X) → i < length xs → P (get_or xs i d)

@@ -2,7 +2,7 @@
 use Rattle.std.proofs.Common.{◌≡◌, List, ◌++◌, Option, fold, sym, ap, ◌∙◌}
 use Rattle.std.proofs.lemmas.Grind.{fold-append}
 use Rattle.kb_text.specs.declared.fault.KbFault.{KbFault}
-use Rattle.reading_stages.specs.DataStage.{DataUse}
+use Rattle.stage_definitions.specs.DataStage.{DataUse}
 
 pub four_lists : (note : Option KbFault → DataUse → Option KbFault) (ts es fs as' : List DataUse)
     (old first second third last : Option KbFault)

@@ -2,15 +2,15 @@
 use Rattle.std.specs.Prelude.{◌≡◌, ◌⊎◌, ℕ, List, ⊤}
 use Rattle.kb_text.specs.declared.fault.KbFault.{KbFault}
 use Rattle.kb_logic.specs.KnownAtoms.{KnownAtoms}
-use Rattle.fo_syntax.specs.BlockTrees as raw
-use Rattle.fo_syntax.specs.declared.error.KbError.{KbError}
-use Rattle.fo_syntax.specs.declared.error.KbError.TheVariants.{Refused, Memory}
-use Rattle.reading_stages.specs.DataAnswer.{IsDataOf}
-use Rattle.reading_stages.specs.DataEntries.{Said, said_in}
-use Rattle.reading_stages.specs.DataStage.{StructureRefuses}
-use Rattle.reading_stages.specs.Earliest.{IsEarliest}
-use Rattle.reading_stages.specs.SizesStage.{Sizes, AreSizesOf, SizesRefuse, size_uses}
-use Rattle.reading_stages.specs.TypedFiles.{TypedFile}
+use Rattle.grammar.specs.BlockTrees as raw
+use Rattle.grammar.specs.declared.error.KbError.{KbError}
+use Rattle.grammar.specs.declared.error.KbError.TheVariants.{Refused, Memory}
+use Rattle.stage_definitions.specs.DataAnswer.{IsDataOf}
+use Rattle.stage_definitions.specs.DataEntries.{Said, said_in}
+use Rattle.stage_definitions.specs.DataStage.{StructureRefuses}
+use Rattle.stage_definitions.specs.Earliest.{IsEarliest}
+use Rattle.stage_definitions.specs.SizesStage.{Sizes, AreSizesOf, SizesRefuse, size_uses}
+use Rattle.stage_definitions.specs.TypedFiles.{TypedFile}
 use Rattle.data_domains.specs.TypeSets.{AreTypesOf}
 use Rattle.data_domains.specs.declared.types.TypeData.{TypeData}
 

@@ -2,18 +2,18 @@
 ghost use Rattle.std.specs.Prelude.{◌≡◌, List, map, IsTrue, IfOk};
 ghost use Rattle.std.specs.List.{AllByRecursion};
 ghost use Rattle.kb_logic.specs.declared.vocabularies.TypeDecl.{TypeDecl as AType};
-ghost use Rattle.reading_stages.specs.Elements as set;
-ghost use Rattle.reading_stages.specs.DataEntries as said;
-ghost use Rattle.reading_stages.specs.DataDomains as domain;
-ghost use Rattle.data_entries.specs.EntryViews.{cell_view};
+ghost use Rattle.stage_definitions.specs.Elements as set;
+ghost use Rattle.stage_definitions.specs.DataEntries as said;
+ghost use Rattle.stage_definitions.specs.DataDomains as domain;
+ghost use Rattle.structure_entries.specs.EntryViews.{cell_view};
 ghost use Rattle.data_domains.specs.TypeSets.{AreTypesOf};
 
+use data_domains::listings::listed;
 use data_domains::types::TypeData;
-use data_entries::elements::Cell;
-use data_notes::spots::is_in_range;
-use element_sets::listings::listed;
+use data_refusals::spots::is_in_range;
 use kb_logic::{DomainList, ElemList, Memory};
 use std::alloc::Global;
+use structure_entries::elements::Cell;
 
 /// Whether the integers of these cells may stand in a domain.
 fn are_in_range(cells: &[Cell<'_>]) -> bool

@@ -6,6 +6,6 @@ mod noting;
 mod reading;
 mod sizes;
 
-pub use kb_sizes::Measure;
 pub use reading::{read_data, read_structure};
+pub use size_stage::Measure;
 pub use sizes::measure;

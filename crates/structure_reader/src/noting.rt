@@ -1,20 +1,20 @@
 //! All that the stage of data notes.
 ghost use Rattle.std.specs.Prelude.{◌≡◌, fold, map, OnOk};
-ghost use Rattle.reading_stages.specs.DataStage as stage;
-ghost use Rattle.data_entries.specs.SaidViews.{said_view};
+ghost use Rattle.stage_definitions.specs.DataStage as stage;
+ghost use Rattle.structure_entries.specs.SaidViews.{said_view};
 ghost use Rattle.data_domains.specs.TypeSets.{AreTypesOf};
 ghost use Rattle.type_derivation.specs.TypedViews.{typed_view};
 
 use data_clashes::facts::clashing_facts;
 use data_clashes::notes::note_clashes;
 use data_domains::types::TypeData;
-use data_entries::written::Entry;
-use data_notes::arguments::note_arguments;
-use data_notes::entries::note_entries;
-use data_notes::types::note_types;
+use data_refusals::arguments::note_arguments;
+use data_refusals::entries::note_entries;
+use data_refusals::types::note_types;
 use kb_logic::Memory;
-use reading_stages::Earliest;
+use stage_definitions::Earliest;
 use std::alloc::Global;
+use structure_entries::written::Entry;
 use type_derivation::TypedKb;
 
 /// Notes what is refused of a structure and of the integers beside it.

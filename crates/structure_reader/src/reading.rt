@@ -1,9 +1,9 @@
 //! The stages of data and sizes, as a partial structure.
 ghost use Rattle.std.specs.Prelude.{IfErr, IfOk, map};
-ghost use Rattle.fo_syntax.specs.BlockView.{structure_view};
-ghost use Rattle.kb_sizes.specs.Measures.{measure_view};
-ghost use Rattle.reading_stages.specs.DataAnswer.{IsDataOf};
-ghost use Rattle.data_entries.specs.SaidViews.{said_view};
+ghost use Rattle.grammar.specs.BlockView.{structure_view};
+ghost use Rattle.size_stage.specs.Measures.{measure_view};
+ghost use Rattle.stage_definitions.specs.DataAnswer.{IsDataOf};
+ghost use Rattle.structure_entries.specs.SaidViews.{said_view};
 ghost use Rattle.structure_reader.specs.DataReads.{DataFailsWith, DataOrSizesFail, IsAccepted, IsMeasuredData};
 ghost use Rattle.type_derivation.specs.TypedViews.{typed_view};
 
@@ -11,14 +11,14 @@ use crate::domains::domains_from;
 use crate::noting::note_all;
 use crate::sizes::sizes_of;
 use data_domains::types::{TypeData, types_of};
-use data_entries::entries::entries;
-use data_entries::written::Entry;
 use data_filling::fill;
-use fo_syntax::{KbError, RawStructure};
-use kb_sizes::Measure;
+use grammar::{KbError, RawStructure};
 use partial_structures::Partial;
-use reading_stages::Earliest;
+use size_stage::Measure;
+use stage_definitions::Earliest;
 use std::alloc::Global;
+use structure_entries::entries::entries;
+use structure_entries::written::Entry;
 use type_derivation::TypedKb;
 
 /// What a structure says beside the theory with this number, and the types with the elements that it gives them, which

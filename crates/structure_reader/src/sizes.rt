@@ -2,17 +2,17 @@
 ghost use Rattle.std.specs.Prelude.{List, IfErr, IfOk};
 ghost use Rattle.std.specs.List.{AllByRecursion};
 ghost use Rattle.data_domains.specs.TypeSets.{AreTypesOf};
-ghost use Rattle.kb_sizes.specs.Counted.{IsCountable};
-ghost use Rattle.kb_sizes.specs.Measures.{FailsWith, measure_view};
-ghost use Rattle.reading_stages.specs.DataDomains.{domains_of};
-ghost use Rattle.reading_stages.specs.DataEntries.{Said};
-ghost use Rattle.reading_stages.specs.SizesStage.{AreSizesOf};
+ghost use Rattle.size_stage.specs.Counted.{IsCountable};
+ghost use Rattle.size_stage.specs.Measures.{FailsWith, measure_view};
+ghost use Rattle.stage_definitions.specs.DataDomains.{domains_of};
+ghost use Rattle.stage_definitions.specs.DataEntries.{Said};
+ghost use Rattle.stage_definitions.specs.SizesStage.{AreSizesOf};
 ghost use Rattle.type_derivation.specs.TypedViews.{typed_view};
 
 use data_domains::types::TypeData;
-use fo_syntax::KbError;
-use kb_sizes::Measure;
+use grammar::KbError;
 use partial_structures::Partial;
+use size_stage::Measure;
 use std::alloc::Global;
 use type_derivation::TypedKb;
 
@@ -22,7 +22,7 @@ pub fn measure(alloc: Global, kb: &TypedKb, theory: usize, s: &Partial) -> Resul
     ensures ok { IfOk result (λ m. AreSizesOf (typed_view kb.now) theory s.now.domains (measure_view m)) }
     ensures err { IfErr result (FailsWith (typed_view kb.now) theory s.now.domains) }
 {
-    kb_sizes::measure(alloc, kb, theory, s.domains())
+    size_stage::measure(alloc, kb, theory, s.domains())
 }
 
 /// The same over the domains that some entries give types, which are counted and not listed.
@@ -38,5 +38,5 @@ pub fn sizes_of(
     ensures err { IfErr result (λ e. (es : List Said) → AreTypesOf kb.now.vocab.types es types.now
         → FailsWith (typed_view kb.now) theory (domains_of kb.now.vocab.types es) e) }
 {
-    kb_sizes::measure_types(alloc, kb, theory, types)
+    size_stage::measure_types(alloc, kb, theory, types)
 }

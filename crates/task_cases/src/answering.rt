@@ -5,7 +5,7 @@ use crate::asking::ask;
 use crate::reading::{Asked, Input, read};
 use brute_force::BruteForce;
 use ground_core::{Memory, Problem, has_small_terms};
-use problem_fixtures::{Kept, name_term, problem_of, solver_of};
+use solving_fixtures::{Kept, name_term, problem_of, solver_of};
 use std::alloc::Global;
 use std::mem;
 

@@ -11,7 +11,7 @@ use lit_core::{Lit, Values};
 use model_expansion::{expand, several};
 use model_minimiser::least;
 use model_search::joined;
-use problem_fixtures::are_over;
+use solving_fixtures::are_over;
 use std::alloc::Global;
 use support_explainer::reason::Support;
 use support_explainer::{conflict, support};

@@ -4,7 +4,7 @@ ghost use Rattle.std.specs.Prelude.{◌≡◌, [], IfOk};
 use ground_core::{Memory, Part, Problem};
 use kb_logic::{AggKind, ExtInt};
 use lit_core::{Lit, Var};
-use problem_fixtures::{problem_of, say, say_sum};
+use solving_fixtures::{problem_of, say, say_sum};
 use std::alloc::Global;
 use std::mem;
 

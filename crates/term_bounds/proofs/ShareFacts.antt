@@ -1,5 +1,6 @@
 -- The least that parts may count.
-use Rattle.std.proofs.Common.{◌≡◌, ◌∙◌, ℕ, zero, suc, ◌<◌, ◌-ℤ◌, length, get_or, ℤ, pos, ◌≤ℤ◌, int_lt, Bool, true, false, if◌then◌else◌, Option, Some}
+use Rattle.std.proofs.Common.{◌≡◌, ◌∙◌, ℕ, zero, suc, ◌<◌, ◌-ℤ◌, length, get_or, ℤ, pos, ◌≤ℤ◌, int_lt, Bool, true}
+use Rattle.std.proofs.Common.{false, if◌then◌else◌, Option, Some}
 use Rattle.std.proofs.Common.{None, List, [], ◌∷◌, All, refl, sym, ap, subst, arith}
 use Rattle.std.proofs.lemmas.List.Elements.{All-head, All-tail}
 use Rattle.std.proofs.lemmas.Bool.Decides.{nat_tests}

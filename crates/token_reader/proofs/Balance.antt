@@ -1,15 +1,15 @@
 -- Where the bracket stands that closes an open one: the tokens of a tree are passed over.
 use Rattle.std.proofs.Common.{◌≡◌, List, [], ◌∷◌, refl, ◌∙◌}
-use Rattle.fo_syntax.specs.declared.terminal.Terminal.TheVariants as t
-use Rattle.fo_syntax.specs.declared.terminal.Arrow.{Arrow}
-use Rattle.fo_syntax.specs.Terminals.{Tok, tok_at, mark, sign}
-use Rattle.fo_syntax.specs.Trees.{Name, name, Var, untyped, typed, Vars, var, beside, comma, Number, any, exactly}
-use Rattle.fo_syntax.specs.Trees.{compared, Formula, alone, linked, Links, last, link, Or, one, or, And, single, and}
-use Rattle.fo_syntax.specs.Trees.{Unary, not, every, some, prim, Prim, group, truth, atom, compare, Term, product, sum}
-use Rattle.fo_syntax.specs.Trees.{Product, factor, times, Factor, integer, value, brackets, negative, count, aggregate}
-use Rattle.fo_syntax.specs.Trees.{App, constant, empty, apply, Terms, final, then}
-use Rattle.fo_syntax.specs.Spelling.{put_name, put_var, put_vars, put_number, put_formula, put_links, put_or, put_and}
-use Rattle.fo_syntax.specs.Spelling.{put_unary, put_prim, put_term, put_product, put_factor, put_app, put_terms}
+use Rattle.grammar.specs.declared.terminal.Terminal.TheVariants as t
+use Rattle.grammar.specs.declared.terminal.Arrow.{Arrow}
+use Rattle.grammar.specs.Terminals.{Tok, tok_at, mark, sign}
+use Rattle.grammar.specs.Trees.{Name, name, Var, untyped, typed, Vars, var, beside, comma, Number, any, exactly}
+use Rattle.grammar.specs.Trees.{compared, Formula, alone, linked, Links, last, link, Or, one, or, And, single, and}
+use Rattle.grammar.specs.Trees.{Unary, not, every, some, prim, Prim, group, truth, atom, compare, Term, product, sum}
+use Rattle.grammar.specs.Trees.{Product, factor, times, Factor, integer, value, brackets, negative, count, aggregate}
+use Rattle.grammar.specs.Trees.{App, constant, empty, apply, Terms, final, then}
+use Rattle.grammar.specs.Spelling.{put_name, put_var, put_vars, put_number, put_formula, put_links, put_or, put_and}
+use Rattle.grammar.specs.Spelling.{put_unary, put_prim, put_term, put_product, put_factor, put_app, put_terms}
 
 -- how many brackets are open beside the one
 pub data Depth : Type 0 where

@@ -1,10 +1,10 @@
 -- What may follow a tree.
 use Rattle.std.proofs.Common.{◌≡◌, Some, Bool, true, false, refl, ap, ◌∙◌}
-use Rattle.fo_syntax.specs.declared.terminal.Arrow.{Arrow}
-use Rattle.fo_syntax.specs.declared.terminal.Arrow.TheVariants as arrow
-use Rattle.fo_syntax.specs.Trees.{Formula, alone, linked, Links, last, link, Or, one, or, And, single, and, Unary, not}
-use Rattle.fo_syntax.specs.Trees.{every, some, prim, Prim, group, truth, atom, compare}
-use Rattle.fo_syntax.specs.Fine.{closed_unary, closed_and, closed_or}
+use Rattle.grammar.specs.declared.terminal.Arrow.{Arrow}
+use Rattle.grammar.specs.declared.terminal.Arrow.TheVariants as arrow
+use Rattle.grammar.specs.Trees.{Formula, alone, linked, Links, last, link, Or, one, or, And, single, and, Unary, not}
+use Rattle.grammar.specs.Trees.{every, some, prim, Prim, group, truth, atom, compare}
+use Rattle.grammar.specs.Fine.{closed_unary, closed_and, closed_or}
 use Rattle.token_reader.specs.Sorts.{app_formula, app_or, app_and, app_unary, app_prim}
 use Rattle.token_reader.specs.Machine.{Chain, unsettled, fresh, chained, in_formula, formula, need, settled, connects}
 use Rattle.token_reader.specs.Machine.{links_on, link_on, ended}

@@ -1,21 +1,21 @@
 -- The way of the machine through names, variables and numbers.
 use Rattle.std.proofs.Common.{◌≡◌, ℕ, List, [], ◌∷◌, ◌++◌, Option, Some, None, Result, Ok, Err, Bor, refl, sym, ap, ◌∙◌}
-use Rattle.fo_syntax.specs.declared.terminal.Terminal.{Terminal}
-use Rattle.fo_syntax.specs.declared.terminal.Terminal.TheVariants as t
-use Rattle.fo_syntax.specs.declared.terminal.Comparison.{Comparison}
-use Rattle.fo_syntax.specs.declared.terminal.Comparison.TheVariants as cmp
-use Rattle.fo_syntax.specs.Terminals.{Symbol, Tok, tok, tok_at, mark, word, sign, symbol_of, place_of, toks}
-use Rattle.fo_syntax.specs.declared.terminal.Item.{Item}
-use Rattle.fo_syntax.specs.declared.stops.ReadError.TheVariants.{Stuck}
-use Rattle.fo_syntax.specs.Trees.{Var, untyped, name, Vars, var, any, compared}
-use Rattle.fo_syntax.specs.Spelling.{put_var, put_vars}
-use Rattle.fo_syntax.specs.View.{vars_more, vars_of}
+use Rattle.grammar.specs.declared.terminal.Terminal.{Terminal}
+use Rattle.grammar.specs.declared.terminal.Terminal.TheVariants as t
+use Rattle.grammar.specs.declared.terminal.Comparison.{Comparison}
+use Rattle.grammar.specs.declared.terminal.Comparison.TheVariants as cmp
+use Rattle.grammar.specs.Terminals.{Symbol, Tok, tok, tok_at, mark, word, sign, symbol_of, place_of, toks}
+use Rattle.grammar.specs.declared.terminal.Item.{Item}
+use Rattle.grammar.specs.declared.stops.ReadError.TheVariants.{Stuck}
+use Rattle.grammar.specs.Trees.{Var, untyped, name, Vars, var, any, compared}
+use Rattle.grammar.specs.Spelling.{put_var, put_vars}
+use Rattle.grammar.specs.View.{vars_more, vars_of}
 use Rattle.token_reader.specs.Machine.{Frame, vars_first, vars_on, vars_end, type_name, type_close, number_first}
 use Rattle.token_reader.specs.Machine.{number_last, colon, on, stuck, run}
 use Rattle.token_reader.specs.Signs.{next, No, Is, AWord, Absent, SignRead}
 use Rattle.token_reader.specs.Parts.{NoInteger, at_vars, at_number, Fails}
-use Rattle.fo_syntax.specs.Fine.{FineNumber}
-use Rattle.fo_syntax.specs.declared.stops.ReadError.{ReadError}
+use Rattle.grammar.specs.Fine.{FineNumber}
+use Rattle.grammar.specs.declared.stops.ReadError.{ReadError}
 use Rattle.token_reader.proofs.Inside.{Context, fails_at, lacks_fails, integer_fails}
 use Rattle.token_reader.specs.Binders.{NoVar, VarAhead, put_comma, Binder, binder, put_binder, counted}
 use Rattle.token_reader.specs.Variables.{front_vars, VarsAre, MoreVars}

@@ -1,22 +1,22 @@
 -- What may follow a tree, and what it begins with.
 use Rattle.std.proofs.Common.{◌≡◌, ℕ, List, [], ◌∷◌, true, refl, sym, ap, subst, ◌∙◌}
-use Rattle.fo_syntax.specs.declared.terminal.Comparison.{Comparison}
-use Rattle.fo_syntax.specs.declared.terminal.Adding.{Adding}
+use Rattle.grammar.specs.declared.terminal.Comparison.{Comparison}
+use Rattle.grammar.specs.declared.terminal.Adding.{Adding}
 use Rattle.token_reader.specs.Signs.{next, No}
 use Rattle.token_reader.specs.Parts.{EndsFactor, EndsTerm, EndsPrim, NoArrows}
 use Rattle.token_reader.proofs.Signs.{no_sign}
-use Rattle.fo_syntax.specs.Fine.{closed_unary, closed_and, closed_or}
+use Rattle.grammar.specs.Fine.{closed_unary, closed_and, closed_or}
 use Rattle.token_reader.proofs.Balance.{outer, behind_close, formula-passed, term-passed, terms-passed}
-use Rattle.fo_syntax.specs.declared.terminal.Terminal.TheVariants as t
-use Rattle.fo_syntax.specs.declared.terminal.Arrow.{Arrow}
-use Rattle.fo_syntax.specs.Terminals.{Tok, tok_at, mark, word, sign}
-use Rattle.fo_syntax.specs.Trees.{Name, name, untyped, typed, Vars, var, beside, comma, Formula, alone, linked, Links}
-use Rattle.fo_syntax.specs.Trees.{last, link, Or, one, or, And, single, and, Unary, not, every, some, prim, Prim, group}
-use Rattle.fo_syntax.specs.Trees.{truth, atom, compare, Term, product, sum, Product, factor, times, Factor, integer}
-use Rattle.fo_syntax.specs.Trees.{value, brackets, negative, count, aggregate, App, constant, empty, apply, Terms}
-use Rattle.fo_syntax.specs.Trees.{final, then}
-use Rattle.fo_syntax.specs.Spelling.{put_name, put_vars, put_unary, put_prim, put_term, put_product, put_factor}
-use Rattle.fo_syntax.specs.Spelling.{put_app, put_terms}
+use Rattle.grammar.specs.declared.terminal.Terminal.TheVariants as t
+use Rattle.grammar.specs.declared.terminal.Arrow.{Arrow}
+use Rattle.grammar.specs.Terminals.{Tok, tok_at, mark, word, sign}
+use Rattle.grammar.specs.Trees.{Name, name, untyped, typed, Vars, var, beside, comma, Formula, alone, linked, Links}
+use Rattle.grammar.specs.Trees.{last, link, Or, one, or, And, single, and, Unary, not, every, some, prim, Prim, group}
+use Rattle.grammar.specs.Trees.{truth, atom, compare, Term, product, sum, Product, factor, times, Factor, integer}
+use Rattle.grammar.specs.Trees.{value, brackets, negative, count, aggregate, App, constant, empty, apply, Terms}
+use Rattle.grammar.specs.Trees.{final, then}
+use Rattle.grammar.specs.Spelling.{put_name, put_vars, put_unary, put_prim, put_term, put_product, put_factor}
+use Rattle.grammar.specs.Spelling.{put_app, put_terms}
 
 -- no type in brackets comes
 abbrev pub EndsName : List Tok → Type 0

@@ -1,9 +1,9 @@
 -- Where a part is stuck, what it is a part of is stuck at the same token.
 use Rattle.std.proofs.Common.{◌≡◌, ℕ, List, [], ◌∷◌, ◌++◌, Err, sym, ap, ◌∙◌}
-use Rattle.fo_syntax.specs.declared.stops.ReadError.{ReadError}
-use Rattle.fo_syntax.specs.declared.stops.ReadError.TheVariants.{Memory, Stuck}
-use Rattle.fo_syntax.specs.declared.terminal.Terminal.{Terminal}
-use Rattle.fo_syntax.specs.Terminals.{Tok, tok_at, mark, place_of}
+use Rattle.grammar.specs.declared.stops.ReadError.{ReadError}
+use Rattle.grammar.specs.declared.stops.ReadError.TheVariants.{Memory, Stuck}
+use Rattle.grammar.specs.declared.terminal.Terminal.{Terminal}
+use Rattle.grammar.specs.Terminals.{Tok, tok_at, mark, place_of}
 use Rattle.token_reader.specs.Machine.{Frame, on, stuck, run}
 use Rattle.token_reader.specs.Signs.{next, Is, AWord, Absent, WordRead}
 use Rattle.token_reader.specs.Parts.{Broken, Fails, NoInteger}

@@ -1,7 +1,7 @@
 -- No two trees are written alike.
 use Rattle.std.proofs.Common.{◌≡◌, List, ◌∷◌, sym, ap, subst}
-use Rattle.fo_syntax.specs.Fine.{FineFormula, FineLinks, FineOr, FineAnd, FineUnary, FinePrim, FineTerm, FineProduct}
-use Rattle.fo_syntax.specs.Fine.{FineFactor, FineApp, FineTerms}
+use Rattle.grammar.specs.Fine.{FineFormula, FineLinks, FineOr, FineAnd, FineUnary, FinePrim, FineTerm, FineProduct}
+use Rattle.grammar.specs.Fine.{FineFactor, FineApp, FineTerms}
 use Rattle.token_reader.specs.Parts.{EndsFactor, EndsTerm, EndsPrim}
 use Rattle.token_reader.proofs.Ends.{EndsName, EndsVars, EndsNumber, EndsProduct, EndsList, stops_unary, stops_and}
 use Rattle.token_reader.proofs.Ends.{stops_or, stops_links, stops_formula, prim_no_compare, product_ends, term_ends}
@@ -11,16 +11,16 @@ use Rattle.token_reader.proofs.Ends.{terms_no_close, same_start_unary, same_star
 use Rattle.token_reader.proofs.Ends.{goes_vars, goes_integer, goes_compare, goes_factor, goes_product, goes_term}
 use Rattle.token_reader.proofs.Ends.{goes_formula, goes_beside}
 use Rattle.token_reader.proofs.Signs.{goes_sign}
-use Rattle.fo_syntax.specs.declared.terminal.Terminal.TheVariants as t
-use Rattle.fo_syntax.specs.declared.terminal.Arrow.{Arrow}
-use Rattle.fo_syntax.specs.Terminals.{Tok, sign}
-use Rattle.fo_syntax.specs.Trees.{Name, name, Var, untyped, typed, Vars, var, beside, comma, Number, any, exactly}
-use Rattle.fo_syntax.specs.Trees.{compared, Formula, alone, linked, Links, last, link, Or, one, or, And, single, and}
-use Rattle.fo_syntax.specs.Trees.{Unary, not, every, some, prim, Prim, group, truth, atom, compare, Term, product, sum}
-use Rattle.fo_syntax.specs.Trees.{Product, factor, times, Factor, integer, value, brackets, negative, count, aggregate}
-use Rattle.fo_syntax.specs.Trees.{App, constant, empty, apply, Terms, final, then}
-use Rattle.fo_syntax.specs.Spelling.{put_name, put_var, put_vars, put_number, put_formula, put_links, put_or, put_and}
-use Rattle.fo_syntax.specs.Spelling.{put_unary, put_prim, put_term, put_product, put_factor, put_app, put_terms}
+use Rattle.grammar.specs.declared.terminal.Terminal.TheVariants as t
+use Rattle.grammar.specs.declared.terminal.Arrow.{Arrow}
+use Rattle.grammar.specs.Terminals.{Tok, sign}
+use Rattle.grammar.specs.Trees.{Name, name, Var, untyped, typed, Vars, var, beside, comma, Number, any, exactly}
+use Rattle.grammar.specs.Trees.{compared, Formula, alone, linked, Links, last, link, Or, one, or, And, single, and}
+use Rattle.grammar.specs.Trees.{Unary, not, every, some, prim, Prim, group, truth, atom, compare, Term, product, sum}
+use Rattle.grammar.specs.Trees.{Product, factor, times, Factor, integer, value, brackets, negative, count, aggregate}
+use Rattle.grammar.specs.Trees.{App, constant, empty, apply, Terms, final, then}
+use Rattle.grammar.specs.Spelling.{put_name, put_var, put_vars, put_number, put_formula, put_links, put_or, put_and}
+use Rattle.grammar.specs.Spelling.{put_unary, put_prim, put_term, put_product, put_factor, put_app, put_terms}
 
 pub only_name : (x y : Name) (m n : List Tok) → put_name x m ≡ put_name y n → (x ≡ y) × (m ≡ n)
 only_name (name text p) (name text2 p2) m n e = (cc, cc)

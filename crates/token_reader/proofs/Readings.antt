@@ -1,16 +1,16 @@
 -- The machine reads every tree.
 use Rattle.std.proofs.Common.{◌≡◌, ℕ, List, ◌∷◌, refl, sym, ◌∙◌}
-use Rattle.fo_syntax.specs.declared.terminal.Terminal.TheVariants as t
-use Rattle.fo_syntax.specs.declared.terminal.Arrow.{Arrow}
-use Rattle.fo_syntax.specs.Terminals.{Tok, sign}
-use Rattle.fo_syntax.specs.Trees.{name, Formula, alone, linked, Links, last, link, Or, one, or, And, single, and, Unary}
-use Rattle.fo_syntax.specs.Trees.{not, every, some, prim, Prim, group, truth, atom, compare, Term, product, sum}
-use Rattle.fo_syntax.specs.Trees.{Product, factor, times, Factor, integer, value, brackets, negative, count, aggregate}
-use Rattle.fo_syntax.specs.Trees.{App, constant, empty, apply, Terms, final, then}
-use Rattle.fo_syntax.specs.Spelling.{put_formula, put_links, put_or, put_and, put_unary, put_prim, put_term}
-use Rattle.fo_syntax.specs.Spelling.{put_product, put_factor, put_app, put_terms}
-use Rattle.fo_syntax.specs.Fine.{FineFormula, FineLinks, FineOr, FineAnd, FineUnary, FinePrim, FineTerm, FineProduct}
-use Rattle.fo_syntax.specs.Fine.{FineFactor, FineApp, FineTerms}
+use Rattle.grammar.specs.declared.terminal.Terminal.TheVariants as t
+use Rattle.grammar.specs.declared.terminal.Arrow.{Arrow}
+use Rattle.grammar.specs.Terminals.{Tok, sign}
+use Rattle.grammar.specs.Trees.{name, Formula, alone, linked, Links, last, link, Or, one, or, And, single, and, Unary}
+use Rattle.grammar.specs.Trees.{not, every, some, prim, Prim, group, truth, atom, compare, Term, product, sum}
+use Rattle.grammar.specs.Trees.{Product, factor, times, Factor, integer, value, brackets, negative, count, aggregate}
+use Rattle.grammar.specs.Trees.{App, constant, empty, apply, Terms, final, then}
+use Rattle.grammar.specs.Spelling.{put_formula, put_links, put_or, put_and, put_unary, put_prim, put_term}
+use Rattle.grammar.specs.Spelling.{put_product, put_factor, put_app, put_terms}
+use Rattle.grammar.specs.Fine.{FineFormula, FineLinks, FineOr, FineAnd, FineUnary, FinePrim, FineTerm, FineProduct}
+use Rattle.grammar.specs.Fine.{FineFactor, FineApp, FineTerms}
 use Rattle.token_reader.specs.Sorts.{app_formula, app_term, app_product, app_factor}
 use Rattle.token_reader.proofs.Ends.{terms_no_close}
 use Rattle.token_reader.specs.Signs.{next, No}

@@ -1,15 +1,15 @@
 -- The machine reads every tree.
 use Rattle.std.proofs.Common.{◌≡◌, ℕ, List, [], ◌∷◌, Option, Some, None, Bool, true, false, refl, ap, ◌∙◌}
-use Rattle.fo_syntax.specs.declared.terminal.Terminal.{Terminal}
-use Rattle.fo_syntax.specs.declared.terminal.Terminal.TheVariants as t
-use Rattle.fo_syntax.specs.declared.terminal.Arrow.{Arrow}
-use Rattle.fo_syntax.specs.declared.terminal.Adding.{Adding}
-use Rattle.fo_syntax.specs.declared.terminal.Comparison.{Comparison}
-use Rattle.fo_syntax.specs.declared.terminal.Comparison.TheVariants as cmp
-use Rattle.fo_syntax.specs.Terminals.{Tok, tok_at, mark, sign}
-use Rattle.fo_syntax.specs.Trees.{name, untyped, typed, Vars, var, beside, comma, Number, any, exactly, compared, Prim}
-use Rattle.fo_syntax.specs.Spelling.{put_vars, put_number}
-use Rattle.fo_syntax.specs.Fine.{FineNumber}
+use Rattle.grammar.specs.declared.terminal.Terminal.{Terminal}
+use Rattle.grammar.specs.declared.terminal.Terminal.TheVariants as t
+use Rattle.grammar.specs.declared.terminal.Arrow.{Arrow}
+use Rattle.grammar.specs.declared.terminal.Adding.{Adding}
+use Rattle.grammar.specs.declared.terminal.Comparison.{Comparison}
+use Rattle.grammar.specs.declared.terminal.Comparison.TheVariants as cmp
+use Rattle.grammar.specs.Terminals.{Tok, tok_at, mark, sign}
+use Rattle.grammar.specs.Trees.{name, untyped, typed, Vars, var, beside, comma, Number, any, exactly, compared, Prim}
+use Rattle.grammar.specs.Spelling.{put_vars, put_number}
+use Rattle.grammar.specs.Fine.{FineNumber}
 use Rattle.token_reader.specs.Signs.{next, No}
 use Rattle.token_reader.specs.Parts.{EndsFactor}
 use Rattle.token_reader.specs.Machine as m

@@ -1,18 +1,18 @@
 -- What the readers of names, variables and numbers return.
 use Rattle.std.specs.Prelude.{◌≡◌, ℕ, List, ◌∷◌, Option, Some, None, Result, Ok, Err}
 use Rattle.std.specs.Borrow.{Bor}
-use Rattle.fo_syntax.specs.declared.stops.ReadError.{ReadError}
-use Rattle.fo_syntax.specs.declared.stops.ReadError.TheVariants.{Memory, Stuck}
-use Rattle.fo_syntax.specs.declared.terminal.Terminal.TheVariants as t
-use Rattle.fo_syntax.specs.declared.terminal.Item.{Item}
-use Rattle.fo_syntax.specs.declared.raw.RawVar.{RawVar}
-use Rattle.fo_syntax.specs.declared.raw.RawVars.{RawVars}
-use Rattle.fo_syntax.specs.declared.raw.RawNumber.{RawNumber}
-use Rattle.fo_syntax.specs.Terminals.{Tok, tok_at, mark, word, sign, toks, place_of}
-use Rattle.fo_syntax.specs.Trees.{Vars, Number}
-use Rattle.fo_syntax.specs.Spelling.{put_var, put_vars, put_number}
-use Rattle.fo_syntax.specs.Fine.{FineNumber}
-use Rattle.fo_syntax.specs.View.{var_view, vars_view, number_view}
+use Rattle.grammar.specs.declared.stops.ReadError.{ReadError}
+use Rattle.grammar.specs.declared.stops.ReadError.TheVariants.{Memory, Stuck}
+use Rattle.grammar.specs.declared.terminal.Terminal.TheVariants as t
+use Rattle.grammar.specs.declared.terminal.Item.{Item}
+use Rattle.grammar.specs.declared.raw.RawVar.{RawVar}
+use Rattle.grammar.specs.declared.raw.RawVars.{RawVars}
+use Rattle.grammar.specs.declared.raw.RawNumber.{RawNumber}
+use Rattle.grammar.specs.Terminals.{Tok, tok_at, mark, word, sign, toks, place_of}
+use Rattle.grammar.specs.Trees.{Vars, Number}
+use Rattle.grammar.specs.Spelling.{put_var, put_vars, put_number}
+use Rattle.grammar.specs.Fine.{FineNumber}
+use Rattle.grammar.specs.View.{var_view, vars_view, number_view}
 use Rattle.token_reader.specs.Machine.{Frame, vars_first, vars_end, number_first, colon, on, run}
 use Rattle.token_reader.specs.Signs.{next, AWord}
 use Rattle.token_reader.specs.Parts.{Fails, at_vars, at_number, NoInteger}

@@ -1,12 +1,12 @@
 -- The texts of the grammar token by token: what has been read is kept on a stack.
 use Rattle.std.specs.Prelude.{List, [], ◌∷◌, Option, Some, None}
-use Rattle.fo_syntax.specs.declared.terminal.Terminal.TheVariants as t
-use Rattle.fo_syntax.specs.declared.terminal.Outer.TheVariants as o
-use Rattle.fo_syntax.specs.declared.terminal.Arrow.{Arrow}
-use Rattle.fo_syntax.specs.declared.terminal.Arrow.TheVariants as arrow
-use Rattle.fo_syntax.specs.declared.terminal.Adding.TheVariants.{Minus}
-use Rattle.fo_syntax.specs.declared.terminal.Comparison.TheVariants.{NotEqual}
-use Rattle.fo_syntax.specs.Terminals.{Symbol, Tok, tok_at, mark, word}
+use Rattle.grammar.specs.declared.terminal.Terminal.TheVariants as t
+use Rattle.grammar.specs.declared.terminal.Outer.TheVariants as o
+use Rattle.grammar.specs.declared.terminal.Arrow.{Arrow}
+use Rattle.grammar.specs.declared.terminal.Arrow.TheVariants as arrow
+use Rattle.grammar.specs.declared.terminal.Adding.TheVariants.{Minus}
+use Rattle.grammar.specs.declared.terminal.Comparison.TheVariants.{NotEqual}
+use Rattle.grammar.specs.Terminals.{Symbol, Tok, tok_at, mark, word}
 
 -- the arrows so far; in brackets a term may stand as well, until a formula's operand or connective is read
 pub data Chain : Type 0 where

@@ -1,8 +1,8 @@
 -- Where the machine stands after a tree.
 use Rattle.std.specs.Prelude.{Bool, true, false}
-use Rattle.fo_syntax.specs.declared.terminal.Arrow.{Arrow}
-use Rattle.fo_syntax.specs.Trees.{Formula, alone, linked, Links, last, link, Or, one, or, And, single, and, Unary, not}
-use Rattle.fo_syntax.specs.Trees.{every, some, prim, Prim, group, truth, atom, compare}
+use Rattle.grammar.specs.declared.terminal.Arrow.{Arrow}
+use Rattle.grammar.specs.Trees.{Formula, alone, linked, Links, last, link, Or, one, or, And, single, and, Unary, not}
+use Rattle.grammar.specs.Trees.{every, some, prim, Prim, group, truth, atom, compare}
 use Rattle.token_reader.specs.Sorts.{app_formula}
 use Rattle.token_reader.specs.Machine.{Chain, fresh, chained, Mode, in_formula, compared, Sort, formula, term, either}
 use Rattle.token_reader.specs.Machine.{settled}

@@ -1,9 +1,9 @@
 -- What a part of the reader returns.
 use Rattle.std.specs.Prelude.{◌≡◌, ℕ, List, [], ◌∷◌, ◌++◌, None, Bool, false}
-use Rattle.fo_syntax.specs.declared.stops.ReadError.{ReadError}
-use Rattle.fo_syntax.specs.declared.stops.ReadError.TheVariants.{Memory, Stuck}
-use Rattle.fo_syntax.specs.declared.terminal.Terminal.TheVariants as t
-use Rattle.fo_syntax.specs.Terminals.{Tok, tok_at, mark, word, sign, place_of}
+use Rattle.grammar.specs.declared.stops.ReadError.{ReadError}
+use Rattle.grammar.specs.declared.stops.ReadError.TheVariants.{Memory, Stuck}
+use Rattle.grammar.specs.declared.terminal.Terminal.TheVariants as t
+use Rattle.grammar.specs.Terminals.{Tok, tok_at, mark, word, sign, place_of}
 use Rattle.token_reader.specs.Machine.{Frame, need, want, vars_first, number_first, colon, Chain, unsettled, fresh}
 use Rattle.token_reader.specs.Machine.{settled, Mode, in_formula, Sort, term, either, on, stuck, run, goes_on}
 

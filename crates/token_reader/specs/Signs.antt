@@ -1,16 +1,16 @@
 -- Which token comes next, and what a reader of one token returns.
 use Rattle.std.specs.Prelude.{◌≡◌, ℕ, List, [], ◌∷◌, Option, Some, None, Result, Ok, Err}
 use Rattle.std.specs.Borrow.{Bor}
-use Rattle.fo_syntax.specs.declared.stops.ReadError.{ReadError}
-use Rattle.fo_syntax.specs.declared.stops.ReadError.TheVariants.{Memory, Stuck}
-use Rattle.fo_syntax.specs.declared.terminal.Terminal.{Terminal}
-use Rattle.fo_syntax.specs.declared.terminal.Terminal.TheVariants as t
-use Rattle.fo_syntax.specs.declared.terminal.Item.{Item}
-use Rattle.fo_syntax.specs.declared.raw.RawName.{RawName}
-use Rattle.fo_syntax.specs.Terminals.{Symbol, Tok, tok_at, mark, word, toks, place_of}
-use Rattle.fo_syntax.specs.Spelling.{put_name}
-use Rattle.fo_syntax.specs.BlockSpelling.{put_sign}
-use Rattle.fo_syntax.specs.View.{name_view}
+use Rattle.grammar.specs.declared.stops.ReadError.{ReadError}
+use Rattle.grammar.specs.declared.stops.ReadError.TheVariants.{Memory, Stuck}
+use Rattle.grammar.specs.declared.terminal.Terminal.{Terminal}
+use Rattle.grammar.specs.declared.terminal.Terminal.TheVariants as t
+use Rattle.grammar.specs.declared.terminal.Item.{Item}
+use Rattle.grammar.specs.declared.raw.RawName.{RawName}
+use Rattle.grammar.specs.Terminals.{Symbol, Tok, tok_at, mark, word, toks, place_of}
+use Rattle.grammar.specs.Spelling.{put_name}
+use Rattle.grammar.specs.BlockSpelling.{put_sign}
+use Rattle.grammar.specs.View.{name_view}
 
 -- the next token without its place, if one comes
 abbrev pub next : List Tok → Option Symbol

@@ -1,8 +1,8 @@
 -- Which trees are an application, also in brackets: such a text is a formula and a term.
 use Rattle.std.specs.Prelude.{Bool, true, false}
-use Rattle.fo_syntax.specs.Trees.{Formula, alone, linked, Or, one, or, And, single, and, Unary, not, every, some, prim}
-use Rattle.fo_syntax.specs.Trees.{Prim, group, truth, atom, compare, Term, product, sum, Product, factor, times, Factor}
-use Rattle.fo_syntax.specs.Trees.{integer, value, brackets, negative, count, aggregate}
+use Rattle.grammar.specs.Trees.{Formula, alone, linked, Or, one, or, And, single, and, Unary, not, every, some, prim}
+use Rattle.grammar.specs.Trees.{Prim, group, truth, atom, compare, Term, product, sum, Product, factor, times, Factor}
+use Rattle.grammar.specs.Trees.{integer, value, brackets, negative, count, aggregate}
 
 abbrev mutual
   pub app_term : Term → Bool

@@ -1,13 +1,13 @@
 -- What the reader of the further variables of a list returns.
 use Rattle.std.specs.Prelude.{◌≡◌, ℕ, List, [], ◌∷◌, Option, Result, Ok, Err}
 use Rattle.std.specs.Borrow.{Bor}
-use Rattle.fo_syntax.specs.declared.stops.ReadError.{ReadError}
-use Rattle.fo_syntax.specs.declared.terminal.Terminal.TheVariants as t
-use Rattle.fo_syntax.specs.declared.terminal.Item.{Item}
-use Rattle.fo_syntax.specs.Terminals.{Tok, sign, toks}
-use Rattle.fo_syntax.specs.Trees.{Var}
-use Rattle.fo_syntax.specs.Spelling.{put_var, put_vars}
-use Rattle.fo_syntax.specs.View.{vars_of}
+use Rattle.grammar.specs.declared.stops.ReadError.{ReadError}
+use Rattle.grammar.specs.declared.terminal.Terminal.TheVariants as t
+use Rattle.grammar.specs.declared.terminal.Item.{Item}
+use Rattle.grammar.specs.Terminals.{Tok, sign, toks}
+use Rattle.grammar.specs.Trees.{Var}
+use Rattle.grammar.specs.Spelling.{put_var, put_vars}
+use Rattle.grammar.specs.View.{vars_of}
 use Rattle.token_reader.specs.Machine.{Frame, vars_first, vars_end, colon, on, run}
 use Rattle.token_reader.specs.Parts.{Fails, at_vars}
 use Rattle.token_reader.specs.Binders.{put_comma, put_binder, Whole}

@@ -1,16 +1,16 @@
 //! Variables where they are bound, and the number of instances before them.
 ghost use Rattle.std.specs.Prelude.{◌≡◌, ◌∷◌, ◌≤◌, ◌<◌, List, length, map, IfOk, IfSome, IfNone};
-ghost use Rattle.fo_syntax.specs.Trees as tree;
-ghost use Rattle.fo_syntax.specs.Terminals.{Tok, tok, toks};
-ghost use Rattle.fo_syntax.specs.Trees.{Var};
-ghost use Rattle.fo_syntax.specs.View.{name_view, var_view, var_tail_view, vars_view, vars_of, number_view};
+ghost use Rattle.grammar.specs.Trees as tree;
+ghost use Rattle.grammar.specs.Terminals.{Tok, tok, toks};
+ghost use Rattle.grammar.specs.Trees.{Var};
+ghost use Rattle.grammar.specs.View.{name_view, var_view, var_tail_view, vars_view, vars_of, number_view};
 ghost use Rattle.token_reader.specs.Binders.{VarRead, BinderRead, NumberRead, IntegerRead, VarAhead, NoVar};
 ghost use Rattle.token_reader.specs.Variables.{VarsAre, MoreVars};
 ghost use Rattle.token_reader.specs.Signs.{WordRead};
 
 use crate::build::named;
 use crate::cursor::{Found, sign, skip, split, start};
-use fo_syntax::{
+use grammar::{
     Comparison, Item, RawInteger, RawName, RawNumber, RawVar, RawVarTail, RawVarType, RawVars,
     ReadError, Terminal,
 };

@@ -1,14 +1,14 @@
 //! The raw trees, built from their parts. What one reader hands to another is boxed, so that a level of nesting takes
 //! little of the stack.
 ghost use Rattle.std.specs.Prelude.{◌≡◌, ◌∷◌, IfOk, map};
-ghost use Rattle.fo_syntax.specs.Trees as tree;
-ghost use Rattle.fo_syntax.specs.View.{name_view, vars_view, number_view, formula_view, link_view, or_view};
-ghost use Rattle.fo_syntax.specs.View.{or_tail_view, and_view, and_tail_view, unary_view, prim_view, term_view};
-ghost use Rattle.fo_syntax.specs.View.{sum_tail_view, product_view, product_tail_view, factor_view, app_view};
-ghost use Rattle.fo_syntax.specs.View.{terms_view, terms_tail_view, formula_of, or_of, and_of, term_of, product_of};
-ghost use Rattle.fo_syntax.specs.View.{terms_of};
+ghost use Rattle.grammar.specs.Trees as tree;
+ghost use Rattle.grammar.specs.View.{name_view, vars_view, number_view, formula_view, link_view, or_view};
+ghost use Rattle.grammar.specs.View.{or_tail_view, and_view, and_tail_view, unary_view, prim_view, term_view};
+ghost use Rattle.grammar.specs.View.{sum_tail_view, product_view, product_tail_view, factor_view, app_view};
+ghost use Rattle.grammar.specs.View.{terms_view, terms_tail_view, formula_of, or_of, and_of, term_of, product_of};
+ghost use Rattle.grammar.specs.View.{terms_of};
 
-use fo_syntax::{
+use grammar::{
     Adding, Aggregation, Arrow, Comparison, RawAnd, RawAndTail, RawApp, RawFactor, RawFormula,
     RawInteger, RawLink, RawName, RawNumber, RawOpening, RawOr, RawOrTail, RawPrim, RawProduct,
     RawProductTail, RawSumTail, RawTermTree, RawTerms, RawTermsTail, RawUnary, RawVars, Text,

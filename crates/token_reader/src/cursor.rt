@@ -1,14 +1,14 @@
 //! The next token, and what follows it.
 ghost use Rattle.std.specs.Prelude.{◌≡◌, ◌∷◌, [], ◌<◌, length, Err, IfOk, IfErr, IfSome, IfNone, true, false};
-ghost use Rattle.fo_syntax.specs.Terminals.{tok, toks, place_of};
-ghost use Rattle.fo_syntax.specs.Terminals as terminals;
+ghost use Rattle.grammar.specs.Terminals.{tok, toks, place_of};
+ghost use Rattle.grammar.specs.Terminals as terminals;
 ghost use Rattle.token_reader.specs.Signs.{next, No, IsSign, SignRead};
 ghost use Rattle.token_reader.specs.Parts.{Connects, NoConnective, EndsPrim, NoArrows, NoAdd, NoCompare, EndsFactor};
 ghost use Rattle.token_reader.specs.Parts.{Unsealed};
-ghost use Rattle.fo_syntax.specs.declared.stops.ReadError.TheVariants.{Memory};
-ghost use Rattle.fo_syntax.specs.declared.terminal.Terminal.TheVariants as t;
+ghost use Rattle.grammar.specs.declared.stops.ReadError.TheVariants.{Memory};
+ghost use Rattle.grammar.specs.declared.terminal.Terminal.TheVariants as t;
 
-use fo_syntax::{Adding, Arrow, Comparison, Item, ReadError, Terminal};
+use grammar::{Adding, Arrow, Comparison, Item, ReadError, Terminal};
 
 /// What was read, and the tokens after it.
 pub type Found<'a, T> = Result<(T, &'a [Item<'a>]), ReadError>;

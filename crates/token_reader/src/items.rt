@@ -3,11 +3,11 @@ ghost use Rattle.std.specs.Prelude.{◌≡◌, ◌<◌, ◌^◌, IfOk, IfErr};
 ghost use Rattle.kb_text.specs.Pieces.{IsPiece, IntText};
 ghost use Rattle.kb_text.specs.Tokens.{Fails, IsSpelled, IsSpellingOf, decimal, lexeme_of};
 ghost use Rattle.kb_text.specs.declared.token.Kind.TheVariants.{Int};
-ghost use Rattle.fo_syntax.specs.Terminals.{tok, toks};
-ghost use Rattle.fo_syntax.specs.Items.{IsTokens, ItemsOf, longer_terminal, sign_terminal, single_terminal, terminal_of, tok_of};
-ghost use Rattle.fo_syntax.specs.Items.{word_terminal};
+ghost use Rattle.grammar.specs.Terminals.{tok, toks};
+ghost use Rattle.grammar.specs.Items.{IsTokens, ItemsOf, longer_terminal, sign_terminal, single_terminal, terminal_of, tok_of};
+ghost use Rattle.grammar.specs.Items.{word_terminal};
 
-use fo_syntax::{Adding, Aggregation, Arrow, Comparison, Item, KbError, Outer, Terminal};
+use grammar::{Adding, Aggregation, Arrow, Comparison, Item, KbError, Outer, Terminal};
 use kb_text::{Kind, LexError, Lexer, Token, same_text};
 use std::alloc::Global;
 
@@ -45,7 +45,7 @@ fn word_terminal(text: &[u8]) -> Terminal
     }
 }
 
-#[tactic(auto, unfolding(fo_syntax::specs::Items::single_terminal))]
+#[tactic(auto, unfolding(grammar::specs::Items::single_terminal))]
 fn single_terminal(b: u8) -> Terminal
     ensures { result ≡ single_terminal b }
 {

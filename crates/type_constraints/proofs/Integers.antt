@@ -1,9 +1,9 @@
 -- Which sums are an integer with a minus.
 use Rattle.std.proofs.Common.{◌≡◌, ◌≤◌, false, List, [], ◌∷◌, length, map, refl, arith}
-use Rattle.reading_stages.specs.Demands.{is_lone_integer}
-use Rattle.reading_stages.specs.NamedTrees.{summands_of}
-use Rattle.reading_stages.specs.declared.named.NamedSigned.{NamedSigned}
-use Rattle.reading_stages.specs.NamedViews.{signed_view}
+use Rattle.stage_definitions.specs.Demands.{is_lone_integer}
+use Rattle.stage_definitions.specs.NamedTrees.{summands_of}
+use Rattle.stage_definitions.specs.declared.named.NamedSigned.{NamedSigned}
+use Rattle.stage_definitions.specs.NamedViews.{signed_view}
 
 pub several : (ss : List NamedSigned) → 2 ≤ length ss → false ≡ is_lone_integer (summands_of (map signed_view ss))
 several [] le = absurd (omega arith)

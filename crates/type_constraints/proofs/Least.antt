@@ -4,13 +4,13 @@ use Rattle.std.proofs.Common.{fold, refl, ap, ◌∙◌, sym, subst, ◌⊎◌, 
 use Rattle.std.specs.List.{list_any, list_all}
 use Rattle.std.proofs.lemmas.List.Elements.{Contains-append_left, Contains-push, Contains-push_cases}
 use Rattle.kb_logic.specs.declared.vocabularies.TypeDecl.{TypeDecl}
-use Rattle.reading_stages.specs.Below.{Parents, HasNoCycle, IsForest, type_parents, is_below}
-use Rattle.reading_stages.specs.Demands.{Finding, nothing, found, torn}
-use Rattle.reading_stages.specs.Kinship.{is_under}
-use Rattle.reading_stages.specs.Typing.{is_split, found_first, least_of, finding_of}
-use Rattle.reading_stages.proofs.EarliestLaws.{contains_head, contains_tail, contains_nothing, contains_cases}
-use Rattle.reading_stages.proofs.Forest.{forest}
-use Rattle.reading_stages.proofs.Ranks.{ranked}
+use Rattle.stage_definitions.specs.Below.{Parents, HasNoCycle, IsForest, type_parents, is_below}
+use Rattle.stage_definitions.specs.Demands.{Finding, nothing, found, torn}
+use Rattle.stage_definitions.specs.Kinship.{is_under}
+use Rattle.stage_definitions.specs.Typing.{is_split, found_first, least_of, finding_of}
+use Rattle.stage_definitions.proofs.EarliestLaws.{contains_head, contains_tail, contains_nothing, contains_cases}
+use Rattle.stage_definitions.proofs.Forest.{forest}
+use Rattle.stage_definitions.proofs.Ranks.{ranked}
 use Rattle.type_constraints.specs.Gathering.{seen}
 
 -- ---- lists of which some element passes a test, or each does

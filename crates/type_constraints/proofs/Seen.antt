@@ -7,12 +7,12 @@ use Rattle.std.proofs.lemmas.Grind.{fold-append}
 use Rattle.std.proofs.lemmas.Bool.Decides.{nat_tests}
 use Rattle.std.proofs.Math.Seq.{drop-append_seam, take-append_seam}
 use Rattle.kb_logic.specs.declared.vocabularies.TypeDecl.{TypeDecl}
-use Rattle.reading_stages.specs.Below.{HasNoCycle, type_parents}
+use Rattle.stage_definitions.specs.Below.{HasNoCycle, type_parents}
 use Rattle.std.proofs.lemmas.List.{length-map, map-set}
 use Rattle.std.proofs.Math.ListN.{get_or-map}
-use Rattle.reading_stages.specs.Demands.{TermType, Kind, of_variable, by_itself, Finding, nothing, Binding}
-use Rattle.reading_stages.specs.Typing.{settled_binding, settled_bindings, is_variable, types_known, type_in}
-use Rattle.reading_stages.specs.Typing.{side_given}
+use Rattle.stage_definitions.specs.Demands.{TermType, Kind, of_variable, by_itself, Finding, nothing, Binding}
+use Rattle.stage_definitions.specs.Typing.{settled_binding, settled_bindings, is_variable, types_known, type_in}
+use Rattle.stage_definitions.specs.Typing.{side_given}
 use Rattle.type_constraints.specs.PartViews.{finding_view}
 use Rattle.type_constraints.specs.declared.constraints.Finding.{Finding as Found}
 use Rattle.type_constraints.specs.Gathering.{seen, after, if_variable, settled_by, settled_from}

@@ -4,11 +4,11 @@ use Rattle.std.proofs.Common.{take, drop, drop-cons, arith, map, replicate, subs
 use Rattle.std.proofs.lemmas.Grind.{common_steps}
 use Rattle.std.proofs.lemmas.List.{length-map, take-map}
 use Rattle.kb_logic.specs.declared.vocabularies.TypeDecl.{TypeDecl}
-use Rattle.reading_stages.specs.Below.{HasNoCycle, type_parents}
-use Rattle.reading_stages.specs.Demands.{Finding, nothing, Binding, Part, demand, scope, Parts, no_parts, more_parts}
-use Rattle.reading_stages.specs.Demands.{parts_of}
-use Rattle.reading_stages.specs.Typing.{within, settled_bindings, settled_binding, places_at, places_in, sides_at}
-use Rattle.reading_stages.specs.Typing.{sides_in, part_by_places, by_places, part_by_sides, by_sides, type_found}
+use Rattle.stage_definitions.specs.Below.{HasNoCycle, type_parents}
+use Rattle.stage_definitions.specs.Demands.{Finding, nothing, Binding, Part, demand, scope, Parts, no_parts, more_parts}
+use Rattle.stage_definitions.specs.Demands.{parts_of}
+use Rattle.stage_definitions.specs.Typing.{within, settled_bindings, settled_binding, places_at, places_in, sides_at}
+use Rattle.stage_definitions.specs.Typing.{sides_in, part_by_places, by_places, part_by_sides, by_sides, type_found}
 use Rattle.type_constraints.specs.Gathering.{after, settled_from, gathered_at, gathered_in, part_by, parts_by}
 use Rattle.type_constraints.specs.PartViews.{part_view, parts_view, finding_view}
 use Rattle.type_constraints.specs.declared.constraints.Part.{Part as Kept}

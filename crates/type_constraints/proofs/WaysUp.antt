@@ -3,11 +3,11 @@ use Rattle.std.proofs.Common.{◌≡◌, ◌<◌, ◌==◌, ℕ, zero, suc, ◌+
 use Rattle.std.proofs.Common.{unwrap_or, length, slice_get, refl, ap, ◌∙◌, sym, arith}
 use Rattle.std.proofs.lemmas.List.{length-map}
 use Rattle.kb_logic.specs.declared.vocabularies.TypeDecl.{TypeDecl}
-use Rattle.reading_stages.specs.Below.{Parents, reaches, type_parents, type_above}
-use Rattle.reading_stages.specs.Kinship.{is_under}
-use Rattle.reading_stages.specs.DataDomains.{parent_of_type}
-use Rattle.reading_stages.specs.NamesStage.{stepped}
-use Rattle.reading_stages.proofs.Forest.{equal, same_here}
+use Rattle.stage_definitions.specs.Below.{Parents, reaches, type_parents, type_above}
+use Rattle.stage_definitions.specs.Kinship.{is_under}
+use Rattle.stage_definitions.specs.DataDomains.{parent_of_type}
+use Rattle.stage_definitions.specs.NamesStage.{stepped}
+use Rattle.stage_definitions.proofs.Forest.{equal, same_here}
 
 pub apart : (a b : ℕ) → (a ≡ b → ⊥) → (a == b) ≡ false
 apart a b differ =

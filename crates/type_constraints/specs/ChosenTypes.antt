@@ -1,7 +1,7 @@
 -- The types of all variables in the order in which they are bound in the text.
 use Rattle.std.specs.Prelude.{ℕ, List, [], ◌++◌, map}
-use Rattle.reading_stages.specs.Demands.{Part, demand, scope, Parts, no_parts, more_parts}
-use Rattle.reading_stages.specs.TypedTrees.{chosen}
+use Rattle.stage_definitions.specs.Demands.{Part, demand, scope, Parts, no_parts, more_parts}
+use Rattle.stage_definitions.specs.TypedTrees.{chosen}
 
 -- the types of all variables in parts, as they are found
 abbrev mutual

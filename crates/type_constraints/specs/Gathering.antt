@@ -1,10 +1,10 @@
 -- Types that are found of variables one by one: of their places, or of the other sides of comparisons.
 use Rattle.std.specs.Prelude.{ℕ, ◌+◌, List, [], ◌∷◌, ◌++◌, length, Option, fold, if◌then◌else◌}
 use Rattle.kb_logic.specs.declared.vocabularies.TypeDecl.{TypeDecl}
-use Rattle.reading_stages.specs.Kinship.{is_under}
-use Rattle.reading_stages.specs.Demands.{Kind, Demand, Finding, nothing, found, torn, Binding, Part, demand, scope}
-use Rattle.reading_stages.specs.Demands.{Parts, no_parts, more_parts}
-use Rattle.reading_stages.specs.Typing.{is_variable, places_given, sides_given, within, settled, settled_bindings}
+use Rattle.stage_definitions.specs.Kinship.{is_under}
+use Rattle.stage_definitions.specs.Demands.{Kind, Demand, Finding, nothing, found, torn, Binding, Part, demand, scope}
+use Rattle.stage_definitions.specs.Demands.{Parts, no_parts, more_parts}
+use Rattle.stage_definitions.specs.Typing.{is_variable, places_given, sides_given, within, settled, settled_bindings}
 use Rattle.type_constraints.specs.declared.infer.Source.{Source}
 use Rattle.type_constraints.specs.declared.infer.Source.TheVariants.{Places, Sides}
 

@@ -1,6 +1,6 @@
 -- What the parts in memory are.
 use Rattle.std.specs.Prelude.{map, List}
-use Rattle.reading_stages.specs.Demands as said
+use Rattle.stage_definitions.specs.Demands as said
 use Rattle.type_constraints.specs.declared.constraints.TermType.{TermType}
 use Rattle.type_constraints.specs.declared.constraints.TermType.TheVariants.{Int, Declared, Untyped}
 use Rattle.type_constraints.specs.declared.constraints.Kind.{Kind}

@@ -1,6 +1,6 @@
 //! What is found of the types of variables.
 ghost use Rattle.std.specs.Prelude.{◌≡◌, map};
-ghost use Rattle.reading_stages.specs.Typing as typing;
+ghost use Rattle.stage_definitions.specs.Typing as typing;
 ghost use Rattle.type_constraints.specs.Gathering.{after, if_variable, seen, settled_by};
 ghost use Rattle.type_constraints.specs.PartViews.{binding_view, finding_view, kind_view, type_view};
 

@@ -1,14 +1,16 @@
 //! What a formula demands of the types of its terms.
 ghost use Rattle.std.specs.Prelude.{◌≡◌, ◌++◌, ◌∷◌, [], map, OnOk, IfOk};
-ghost use Rattle.reading_stages.specs.Demands as said;
-ghost use Rattle.reading_stages.specs.NamedTrees as tree;
-ghost use Rattle.reading_stages.specs.NamedViews.{formula_view, node_view, signed_view, term_view, var_view};
+ghost use Rattle.stage_definitions.specs.Demands as said;
+ghost use Rattle.stage_definitions.specs.NamedTrees as tree;
+ghost use Rattle.stage_definitions.specs.NamedViews.{formula_view, node_view, signed_view, term_view, var_view};
 ghost use Rattle.type_constraints.specs.PartViews.{binding_view, part_view};
 
 use crate::constraints::{Binding, Finding, Part};
 use crate::term_kinds::{demand_comparison, demand_number, demand_position};
 use kb_logic::{Memory, Symbol};
-use reading_stages::{NamedFormula, NamedNode, NamedSigned, NamedTerm, NamedVar, argument_types};
+use stage_definitions::{
+    NamedFormula, NamedNode, NamedSigned, NamedTerm, NamedVar, argument_types,
+};
 use std::alloc::Global;
 
 fn binding(var: &NamedVar) -> Binding

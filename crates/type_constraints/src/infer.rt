@@ -5,9 +5,9 @@
 //! they were before it, since a type that came from a side gives no other variable its type; so the order of the
 //! constraints does not matter.
 ghost use Rattle.std.specs.Prelude.{◌≡◌, ◌+◌, ◌++◌, drop, length, map, replicate, take, IfOk, OnOk};
-ghost use Rattle.reading_stages.specs.Below.{HasNoCycle, type_parents};
-ghost use Rattle.reading_stages.specs.Demands as said;
-ghost use Rattle.reading_stages.specs.Typing as typing;
+ghost use Rattle.stage_definitions.specs.Below.{HasNoCycle, type_parents};
+ghost use Rattle.stage_definitions.specs.Demands as said;
+ghost use Rattle.stage_definitions.specs.Typing as typing;
 ghost use Rattle.type_constraints.specs.Gathering.{after, gathered_at, gathered_in, given, part_by, parts_by};
 ghost use Rattle.type_constraints.specs.Gathering.{settled_from};
 ghost use Rattle.type_constraints.specs.PartViews.{binding_view, demand_view, finding_view, kind_view, part_view};

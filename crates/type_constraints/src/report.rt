@@ -1,9 +1,9 @@
 //! The refusals of the stage of types, where all is found that is found of variables' types.
 ghost use Rattle.std.specs.Prelude.{◌≡◌, ◌++◌, fold, map, OnOk};
-ghost use Rattle.reading_stages.specs.TypedTrees.{chosen};
-ghost use Rattle.reading_stages.specs.TypesStage as stage;
-ghost use Rattle.reading_stages.specs.TypesStage.{type_noted};
-ghost use Rattle.reading_stages.specs.Typing as typing;
+ghost use Rattle.stage_definitions.specs.TypedTrees.{chosen};
+ghost use Rattle.stage_definitions.specs.TypesStage as stage;
+ghost use Rattle.stage_definitions.specs.TypesStage.{type_noted};
+ghost use Rattle.stage_definitions.specs.Typing as typing;
 ghost use Rattle.type_constraints.specs.ChosenTypes.{types_among, types_at};
 ghost use Rattle.type_constraints.specs.PartViews.{binding_view, demand_view, finding_view, part_view, parts_view};
 ghost use Rattle.type_constraints.specs.PartViews.{type_view};
@@ -13,7 +13,7 @@ use crate::constraints::{Binding, Demand, Finding, Part, TermType};
 use crate::subtypes::{are_akin, is_number_type, is_under};
 use kb_logic::{Memory, TypeDecl};
 use kb_text::K;
-use reading_stages::Earliest;
+use stage_definitions::Earliest;
 
 fn is_no_number(types: &[TypeDecl], ty: TermType) -> bool
     ensures { result ≡ stage.is_no_number types.now (type_view ty) }

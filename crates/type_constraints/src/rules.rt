@@ -1,10 +1,10 @@
 //! What a rule demands of the types of its terms, and the types of its variables.
 ghost use Rattle.std.specs.Prelude.{◌≡◌, ◌++◌, ◌∷◌, [], fold, map, option_map, slice_get, OnOk, IfOk};
-ghost use Rattle.reading_stages.specs.Below.{HasNoCycle, type_parents};
-ghost use Rattle.reading_stages.specs.Demands as said;
-ghost use Rattle.reading_stages.specs.NamedViews.{rule_view, term_view};
-ghost use Rattle.reading_stages.specs.TypesStage as stage;
-ghost use Rattle.reading_stages.specs.TypesStage.{type_noted};
+ghost use Rattle.stage_definitions.specs.Below.{HasNoCycle, type_parents};
+ghost use Rattle.stage_definitions.specs.Demands as said;
+ghost use Rattle.stage_definitions.specs.NamedViews.{rule_view, term_view};
+ghost use Rattle.stage_definitions.specs.TypesStage as stage;
+ghost use Rattle.stage_definitions.specs.TypesStage.{type_noted};
 ghost use Rattle.type_constraints.specs.ChosenTypes.{types_among};
 ghost use Rattle.type_constraints.specs.PartViews.{part_view};
 
@@ -13,7 +13,7 @@ use crate::constraints::Part;
 use crate::term_kinds::demand_value;
 use crate::variables::types_of;
 use kb_logic::{Memory, Symbol, Vocabulary};
-use reading_stages::{Earliest, NamedRule, NamedTerm, argument_types};
+use stage_definitions::{Earliest, NamedRule, NamedTerm, argument_types};
 use std::alloc::Global;
 
 /// Adds what the value of a head of this function demands, where it has one.

@@ -1,9 +1,9 @@
 //! Which type is below which, and which belong together.
 ghost use Rattle.std.specs.Prelude.{◌≡◌};
-ghost use Rattle.reading_stages.specs.Kinship as kin;
+ghost use Rattle.stage_definitions.specs.Kinship as kin;
 
 use kb_logic::TypeDecl;
-use reading_stages::{parent_of, top_of};
+use stage_definitions::{parent_of, top_of};
 
 /// Whether the type `lower` is `upper`, or reaches it by `isa`.
 pub fn is_under(types: &[TypeDecl], lower: u32, upper: u32) -> bool
@@ -27,7 +27,7 @@ pub fn is_under(types: &[TypeDecl], lower: u32, upper: u32) -> bool
 pub fn is_number_type(types: &[TypeDecl], ty: u32) -> bool
     ensures { result ≡ kin.is_number_type types.now ty }
 {
-    reading_stages::is_number_type(types, ty as usize)
+    stage_definitions::is_number_type(types, ty as usize)
 }
 
 /// Whether both are number types, or their chains end in the same type.

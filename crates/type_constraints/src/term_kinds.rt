@@ -1,13 +1,13 @@
 //! Where the types of terms come from.
 ghost use Rattle.std.specs.Prelude.{◌≡◌, ◌++◌, ◌∷◌, [], map, slice_get, OnOk};
-ghost use Rattle.reading_stages.specs.Demands as said;
-ghost use Rattle.reading_stages.specs.NamedViews.{term_view, signed_view};
-ghost use Rattle.reading_stages.specs.NamedTrees.{summands_of, place_of};
+ghost use Rattle.stage_definitions.specs.Demands as said;
+ghost use Rattle.stage_definitions.specs.NamedViews.{term_view, signed_view};
+ghost use Rattle.stage_definitions.specs.NamedTrees.{summands_of, place_of};
 ghost use Rattle.type_constraints.specs.PartViews.{kind_view, demand_view, part_view, type_view};
 
 use crate::constraints::{Demand, Kind, Part, TermType};
 use kb_logic::{Cmp, Memory, Symbol};
-use reading_stages::{NamedNode, NamedSigned, NamedTerm};
+use stage_definitions::{NamedNode, NamedSigned, NamedTerm};
 
 /// The type of a function's value.
 fn value_type(symbols: &[Symbol], function: u32) -> Option<u32>

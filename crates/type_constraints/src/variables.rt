@@ -1,10 +1,10 @@
 //! The types of the variables of sentences and of term blocks.
 ghost use Rattle.std.specs.Prelude.{◌≡◌, [], fold, OnOk, IfOk};
-ghost use Rattle.reading_stages.specs.Below.{HasNoCycle, type_parents};
-ghost use Rattle.reading_stages.specs.NamedViews.{formula_view, term_view};
-ghost use Rattle.reading_stages.specs.TypesStage as stage;
-ghost use Rattle.reading_stages.specs.TypesStage.{type_noted};
-ghost use Rattle.reading_stages.specs.Typing.{all_settled};
+ghost use Rattle.stage_definitions.specs.Below.{HasNoCycle, type_parents};
+ghost use Rattle.stage_definitions.specs.NamedViews.{formula_view, term_view};
+ghost use Rattle.stage_definitions.specs.TypesStage as stage;
+ghost use Rattle.stage_definitions.specs.TypesStage.{type_noted};
+ghost use Rattle.stage_definitions.specs.Typing.{all_settled};
 ghost use Rattle.type_constraints.specs.ChosenTypes.{types_among};
 ghost use Rattle.type_constraints.specs.PartViews.{parts_view};
 
@@ -14,7 +14,7 @@ use crate::infer::settle_all;
 use crate::report::note_parts;
 use crate::term_kinds::demand_number;
 use kb_logic::{Memory, TypeDecl, Vocabulary};
-use reading_stages::{Earliest, NamedFormula, NamedTerm};
+use stage_definitions::{Earliest, NamedFormula, NamedTerm};
 use std::alloc::Global;
 
 /// The types of all variables in these parts, and what is refused of them.

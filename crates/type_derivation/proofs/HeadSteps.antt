@@ -3,8 +3,8 @@ use Rattle.std.proofs.Common.{◌≡◌, ℕ, List, [], ◌∷◌, ◌++◌, Opt
 use Rattle.std.specs.List.{flat_map}
 use Rattle.std.proofs.lemmas.Grind.{flat_map-append}
 use Rattle.kb_logic.specs.Trees as tree
-use Rattle.reading_stages.specs.NamedTrees.{NamedTerm, terms_of, NamedRule, head_terms}
-use Rattle.reading_stages.specs.TermPlaces.{each_begins, term_begins}
+use Rattle.stage_definitions.specs.NamedTrees.{NamedTerm, terms_of, NamedRule, head_terms}
+use Rattle.stage_definitions.specs.TermPlaces.{each_begins, term_begins}
 use Rattle.type_derivation.specs.ListedTrees.{left_terms, listed_terms, listed_args, listed_value, left_value}
 use Rattle.type_derivation.specs.ListedTrees.{listed_head, left_head}
 use Rattle.type_derivation.specs.TreeLists.{IsBuilt}

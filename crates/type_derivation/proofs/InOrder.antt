@@ -6,21 +6,23 @@ use Rattle.kb_logic.specs.declared.vocabularies.Bound.{Bound}
 use Rattle.kb_logic.specs.declared.vocabularies.TypeDecl.{TypeDecl}
 use Rattle.kb_logic.specs.declared.vocabularies.Vocabulary.{Vocabulary}
 use Rattle.kb_logic.specs.Trees as tree
-use Rattle.reading_stages.specs.Demands.{Binding, Part, scope, Parts, parts_of, binding_of, is_order, order_demands}
-use Rattle.reading_stages.specs.Demands.{comparison_demands, argument_demands, later_types, number_demand}
-use Rattle.reading_stages.specs.Demands.{formula_parts, formulas_parts, term_parts, node_parts, arguments_parts}
-use Rattle.reading_stages.specs.Demands.{factors_parts, summands_parts}
-use Rattle.reading_stages.specs.NamedTrees.{NamedVar, NamedTerm, at, NamedNode, variable, integer, constructed}
-use Rattle.reading_stages.specs.NamedTrees.{application, summation, product, aggregate, NamedTerms, no_terms}
-use Rattle.reading_stages.specs.NamedTrees.{more_terms, NamedSummands, no_summands, more_summands, NamedFormula, truth}
-use Rattle.reading_stages.specs.NamedTrees.{atom, comparison, negation, conjunction, disjunction, implication}
-use Rattle.reading_stages.specs.NamedTrees.{equivalence, universal, existential, numbered, NamedFormulas, no_formulas}
-use Rattle.reading_stages.specs.NamedTrees.{more_formulas}
-use Rattle.reading_stages.specs.TypedTrees.{found_by_places, found_by_sides, chosen, types_by_places, typed_from}
-use Rattle.reading_stages.specs.TypedTrees.{inside, typed_vars, aggregate_parts, integer_of, typed_formula}
-use Rattle.reading_stages.specs.TypedTrees.{typed_formulas, typed_term, typed_node, typed_terms, typed_summands}
-use Rattle.reading_stages.specs.Typing.{settled_bindings, places_in, sides_in, by_places, part_by_places, by_sides}
-use Rattle.reading_stages.specs.Typing.{part_by_sides, type_found, within}
+use Rattle.stage_definitions.specs.Demands.{Binding, Part, scope, Parts, parts_of, binding_of, is_order, order_demands}
+use Rattle.stage_definitions.specs.Demands.{comparison_demands, argument_demands, later_types, number_demand}
+use Rattle.stage_definitions.specs.Demands.{formula_parts, formulas_parts, term_parts, node_parts, arguments_parts}
+use Rattle.stage_definitions.specs.Demands.{factors_parts, summands_parts}
+use Rattle.stage_definitions.specs.NamedTrees.{NamedVar, NamedTerm, at, NamedNode, variable, integer, constructed}
+use Rattle.stage_definitions.specs.NamedTrees.{application, summation, product, aggregate, NamedTerms, no_terms}
+use Rattle.stage_definitions.specs.NamedTrees.{more_terms, NamedSummands, no_summands, more_summands, NamedFormula}
+use Rattle.stage_definitions.specs.NamedTrees.{truth}
+use Rattle.stage_definitions.specs.NamedTrees.{atom, comparison, negation, conjunction, disjunction, implication}
+use Rattle.stage_definitions.specs.NamedTrees.{equivalence, universal, existential, numbered, NamedFormulas}
+use Rattle.stage_definitions.specs.NamedTrees.{no_formulas}
+use Rattle.stage_definitions.specs.NamedTrees.{more_formulas}
+use Rattle.stage_definitions.specs.TypedTrees.{found_by_places, found_by_sides, chosen, types_by_places, typed_from}
+use Rattle.stage_definitions.specs.TypedTrees.{inside, typed_vars, aggregate_parts, integer_of, typed_formula}
+use Rattle.stage_definitions.specs.TypedTrees.{typed_formulas, typed_term, typed_node, typed_terms, typed_summands}
+use Rattle.stage_definitions.specs.Typing.{settled_bindings, places_in, sides_in, by_places, part_by_places, by_sides}
+use Rattle.stage_definitions.specs.Typing.{part_by_sides, type_found, within}
 use Rattle.type_constraints.specs.ChosenTypes.{types_at, types_among}
 use Rattle.type_derivation.specs.ListedTrees.{listed_vars, left_vars, left_formula}
 use Rattle.type_derivation.specs.ListedTrees.{left_formulas, left_term, left_node, left_terms, left_summands}

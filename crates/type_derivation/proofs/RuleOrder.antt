@@ -4,11 +4,12 @@ use Rattle.std.proofs.Common.{ap, ◌∙◌, sym, append-nil}
 use Rattle.kb_logic.specs.declared.vocabularies.Bound.{Bound}
 use Rattle.kb_logic.specs.declared.vocabularies.Vocabulary.{Vocabulary}
 use Rattle.kb_logic.specs.Trees as tree
-use Rattle.reading_stages.specs.Demands.{argument_types, value_type, formula_parts, term_parts, arguments_parts}
-use Rattle.reading_stages.specs.Demands.{value_demands, value_parts, parts_in_rule}
-use Rattle.reading_stages.specs.NamedTrees.{NamedTerm, terms_of, NamedRule}
-use Rattle.reading_stages.specs.TypedTrees.{rule_types, typed_formula, typed_rule, typed_term, typed_terms, typed_vars}
-use Rattle.reading_stages.specs.TypesStage.{rule_settled}
+use Rattle.stage_definitions.specs.Demands.{argument_types, value_type, formula_parts, term_parts, arguments_parts}
+use Rattle.stage_definitions.specs.Demands.{value_demands, value_parts, parts_in_rule}
+use Rattle.stage_definitions.specs.NamedTrees.{NamedTerm, terms_of, NamedRule}
+use Rattle.stage_definitions.specs.TypedTrees.{rule_types, typed_formula, typed_rule, typed_term, typed_terms}
+use Rattle.stage_definitions.specs.TypedTrees.{typed_vars}
+use Rattle.stage_definitions.specs.TypesStage.{rule_settled}
 use Rattle.type_constraints.specs.ChosenTypes.{types_among}
 use Rattle.type_derivation.specs.ListedTrees.{listed_vars, left_vars, left_term, left_terms, listed_formula}
 use Rattle.type_derivation.specs.ListedTrees.{listed_term, listed_terms, listed_args, listed_value, left_value}

@@ -4,8 +4,8 @@ use Rattle.std.proofs.Common.{get_or, drop, drop-cons, arith, map, subst, append
 use Rattle.std.proofs.lemmas.Grind.{common_steps}
 use Rattle.std.proofs.lemmas.List.{append-nil}
 use Rattle.kb_logic.specs.Trees as tree
-use Rattle.reading_stages.specs.NamedTrees.{NamedTerm, terms_of, summands_of, NamedFormula, formulas_of}
-use Rattle.reading_stages.specs.TermPlaces.{each_begins, formulas_begin, summands_begin, term_begins, terms_begin}
+use Rattle.stage_definitions.specs.NamedTrees.{NamedTerm, terms_of, summands_of, NamedFormula, formulas_of}
+use Rattle.stage_definitions.specs.TermPlaces.{each_begins, formulas_begin, summands_begin, term_begins, terms_begin}
 use Rattle.type_derivation.specs.ListedTrees as listed
 use Rattle.type_derivation.specs.TreeLists.{then_formulas, then_terms, then_summands, IsBuilt}
 

@@ -2,12 +2,12 @@
 use Rattle.std.proofs.Common.{◌≡◌, IsTrue, false, [], ◌∷◌, None, Some, fold, refl, Contains}
 use Rattle.kb_text.specs.declared.fault.K.TheVariants as k
 use Rattle.kb_text.specs.declared.fault.KbFault.{KbFault}
-use Rattle.reading_stages.specs.Earliest.{IsEarliest, IsRowOf, row}
-use Rattle.reading_stages.specs.Numbering.{NamedFile}
-use Rattle.reading_stages.specs.TypesStage.{place_of_type_use, type_uses_of_file, TypesRefuse, type_clash, no_type}
-use Rattle.reading_stages.specs.TypesStage.{is_type_refused, type_causes, type_noted}
-use Rattle.reading_stages.proofs.EarliestLaws.{contains_head, contains_tail, nothing_noted, earliest_noted}
-use Rattle.reading_stages.proofs.EarliestLaws.{earliest_of_same}
+use Rattle.stage_definitions.specs.Earliest.{IsEarliest, IsRowOf, row}
+use Rattle.stage_definitions.specs.Numbering.{NamedFile}
+use Rattle.stage_definitions.specs.TypesStage.{place_of_type_use, type_uses_of_file, TypesRefuse, type_clash, no_type}
+use Rattle.stage_definitions.specs.TypesStage.{is_type_refused, type_causes, type_noted}
+use Rattle.stage_definitions.proofs.EarliestLaws.{contains_head, contains_tail, nothing_noted, earliest_noted}
+use Rattle.stage_definitions.proofs.EarliestLaws.{earliest_of_same}
 
 abbrev Row : NamedFile → KbFault → Type 0
 Row f = IsRowOf (is_type_refused f.vocabulary.types) place_of_type_use type_causes (type_uses_of_file f)

@@ -12,17 +12,17 @@ use Rattle.kb_logic.specs.Trees as typed
 use Rattle.kb_logic.specs.Trees.{TermTree, FormulaTree, RuleTree}
 use Rattle.kb_text.specs.declared.fault.K.TheVariants as k
 use Rattle.kb_text.specs.declared.fault.KbFault.{KbFault}
-use Rattle.reading_stages.specs.Demands.{Finding, nothing, found, torn, Binding, demand, scope, Parts, no_parts}
-use Rattle.reading_stages.specs.Demands.{more_parts}
-use Rattle.reading_stages.specs.Earliest.{refusal}
-use Rattle.reading_stages.specs.Kinship.{is_under, is_number_type, are_akin}
-use Rattle.reading_stages.specs.NamedTrees.{NamedVar, NamedTerm, at, variable, integer, application, summation}
-use Rattle.reading_stages.specs.NamedTrees.{aggregate, terms_of, summands_of, NamedFormula, truth, atom, comparison}
-use Rattle.reading_stages.specs.NamedTrees.{conjunction, universal, existential, formulas_of, NamedRule}
-use Rattle.reading_stages.specs.TermPlaces.{term_begins, rule_begins}
-use Rattle.reading_stages.specs.TypedTrees.{typed_sentence, typed_rule, typed_block_term}
-use Rattle.reading_stages.specs.TypesStage.{sentence_settled, rule_settled, block_settled, uses_among}
-use Rattle.reading_stages.specs.TypesStage.{rule_type_uses, type_noted}
+use Rattle.stage_definitions.specs.Demands.{Finding, nothing, found, torn, Binding, demand, scope, Parts, no_parts}
+use Rattle.stage_definitions.specs.Demands.{more_parts}
+use Rattle.stage_definitions.specs.Earliest.{refusal}
+use Rattle.stage_definitions.specs.Kinship.{is_under, is_number_type, are_akin}
+use Rattle.stage_definitions.specs.NamedTrees.{NamedVar, NamedTerm, at, variable, integer, application, summation}
+use Rattle.stage_definitions.specs.NamedTrees.{aggregate, terms_of, summands_of, NamedFormula, truth, atom, comparison}
+use Rattle.stage_definitions.specs.NamedTrees.{conjunction, universal, existential, formulas_of, NamedRule}
+use Rattle.stage_definitions.specs.TermPlaces.{term_begins, rule_begins}
+use Rattle.stage_definitions.specs.TypedTrees.{typed_sentence, typed_rule, typed_block_term}
+use Rattle.stage_definitions.specs.TypesStage.{sentence_settled, rule_settled, block_settled, uses_among}
+use Rattle.stage_definitions.specs.TypesStage.{rule_type_uses, type_noted}
 
 abbrev pub a_type : Parent → TypeDecl
 a_type above = record { name = codes "T"; parent = above; made = [] }

@@ -5,15 +5,17 @@ use Rattle.kb_logic.specs.declared.vocabularies.Vocabulary.{Vocabulary}
 use Rattle.kb_logic.specs.declared.vocabularies.Bound.{Bound}
 use Rattle.kb_logic.specs.Trees.{TermTree, TermTrees, SummandTrees, FormulaTree, FormulaTrees, RuleTree}
 use Rattle.kb_logic.specs.Trees as tree
-use Rattle.reading_stages.specs.Demands.{later_types}
-use Rattle.reading_stages.specs.NamedTrees.{NamedVar, NamedTerm, at, NamedNode, variable, integer, constructed}
-use Rattle.reading_stages.specs.NamedTrees.{application, summation, product, aggregate, NamedTerms, no_terms}
-use Rattle.reading_stages.specs.NamedTrees.{more_terms, NamedSummands, no_summands, more_summands, NamedFormula, truth}
-use Rattle.reading_stages.specs.NamedTrees.{atom, comparison, negation, conjunction, disjunction, implication}
-use Rattle.reading_stages.specs.NamedTrees.{equivalence, universal, existential, numbered, NamedFormulas, no_formulas}
-use Rattle.reading_stages.specs.NamedTrees.{more_formulas, terms_of, NamedRule}
-use Rattle.reading_stages.specs.TypedTrees.{integer_of, truth_tree, typed_sentence, typed_rule, typed_block_term}
-use Rattle.reading_stages.specs.TypesStage.{sentence_settled, rule_settled, block_settled}
+use Rattle.stage_definitions.specs.Demands.{later_types}
+use Rattle.stage_definitions.specs.NamedTrees.{NamedVar, NamedTerm, at, NamedNode, variable, integer, constructed}
+use Rattle.stage_definitions.specs.NamedTrees.{application, summation, product, aggregate, NamedTerms, no_terms}
+use Rattle.stage_definitions.specs.NamedTrees.{more_terms, NamedSummands, no_summands, more_summands, NamedFormula}
+use Rattle.stage_definitions.specs.NamedTrees.{truth}
+use Rattle.stage_definitions.specs.NamedTrees.{atom, comparison, negation, conjunction, disjunction, implication}
+use Rattle.stage_definitions.specs.NamedTrees.{equivalence, universal, existential, numbered, NamedFormulas}
+use Rattle.stage_definitions.specs.NamedTrees.{no_formulas}
+use Rattle.stage_definitions.specs.NamedTrees.{more_formulas, terms_of, NamedRule}
+use Rattle.stage_definitions.specs.TypedTrees.{integer_of, truth_tree, typed_sentence, typed_rule, typed_block_term}
+use Rattle.stage_definitions.specs.TypesStage.{sentence_settled, rule_settled, block_settled}
 use Rattle.type_constraints.specs.ChosenTypes.{types_among}
 
 -- the type at the start

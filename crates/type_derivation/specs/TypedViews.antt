@@ -3,7 +3,7 @@ use Rattle.std.specs.Prelude.{map}
 use Rattle.kb_logic.specs.declared.syntax.Term.{Term}
 use Rattle.kb_logic.specs.declared.syntax.Theory.{Theory}
 use Rattle.kb_logic.specs.Views as view
-use Rattle.reading_stages.specs.TypedFiles.{PlacesTree, TypedTheoryTree, TypedTermTree, TypedFile}
+use Rattle.stage_definitions.specs.TypedFiles.{PlacesTree, TypedTheoryTree, TypedTermTree, TypedFile}
 use Rattle.type_derivation.specs.declared.typed.Named.{Named}
 use Rattle.type_derivation.specs.declared.typed.Places.{Places}
 use Rattle.type_derivation.specs.declared.typed.TypedKb.{TypedKb}

@@ -2,17 +2,17 @@
 ghost use Rattle.std.specs.Prelude.{◌≡◌, ◌++◌, fold, map, OnOk, IfOk};
 ghost use Rattle.std.specs.List.{flat_map};
 ghost use Rattle.kb_logic.specs.Views as view;
-ghost use Rattle.reading_stages.specs.Below.{HasNoCycle, type_parents};
-ghost use Rattle.reading_stages.specs.NamedViews.{definition_view, rule_view};
-ghost use Rattle.reading_stages.specs.TermPlaces.{rule_begins};
-ghost use Rattle.reading_stages.specs.TypedFiles.{typed_definition};
-ghost use Rattle.reading_stages.specs.TypedTrees.{typed_rule};
-ghost use Rattle.reading_stages.specs.TypesStage.{rule_type_uses, type_noted};
+ghost use Rattle.stage_definitions.specs.Below.{HasNoCycle, type_parents};
+ghost use Rattle.stage_definitions.specs.NamedViews.{definition_view, rule_view};
+ghost use Rattle.stage_definitions.specs.TermPlaces.{rule_begins};
+ghost use Rattle.stage_definitions.specs.TypedFiles.{typed_definition};
+ghost use Rattle.stage_definitions.specs.TypedTrees.{typed_rule};
+ghost use Rattle.stage_definitions.specs.TypesStage.{rule_type_uses, type_noted};
 
 use crate::remaining::Remaining;
 use crate::rules;
 use kb_logic::{Definition, ListOf, Memory, Rule, Vocabulary};
-use reading_stages::{Earliest, NamedDefinition, NamedRule};
+use stage_definitions::{Earliest, NamedDefinition, NamedRule};
 use std::alloc::Global;
 use type_constraints::rule_types;
 

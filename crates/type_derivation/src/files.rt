@@ -2,15 +2,15 @@
 ghost use Rattle.std.specs.Prelude.{◌≡◌, ◌++◌, ◌∷◌, [], fold, map, OnOk, IfOk, IfErr};
 ghost use Rattle.std.specs.List.{flat_map};
 ghost use Rattle.kb_logic.specs.Views as view;
-ghost use Rattle.reading_stages.specs.Below.{HasNoCycle, type_parents};
-ghost use Rattle.reading_stages.specs.TermPlaces.{term_begins, terms_begin};
-ghost use Rattle.reading_stages.specs.TypedFiles.{theory_begins, typed_block, typed_file, typed_theory};
-ghost use Rattle.reading_stages.specs.TypedTrees.{typed_block_term, typed_sentence};
-ghost use Rattle.reading_stages.specs.TypesStage as stage;
-ghost use Rattle.reading_stages.specs.TypesStage.{type_noted, IsTyped};
-ghost use Rattle.reading_stages.specs.FileViews as named_view;
-ghost use Rattle.reading_stages.specs.FileViews.{kb_view};
-ghost use Rattle.reading_stages.specs.NamedViews.{definition_view, formula_view, term_view};
+ghost use Rattle.stage_definitions.specs.Below.{HasNoCycle, type_parents};
+ghost use Rattle.stage_definitions.specs.TermPlaces.{term_begins, terms_begin};
+ghost use Rattle.stage_definitions.specs.TypedFiles.{theory_begins, typed_block, typed_file, typed_theory};
+ghost use Rattle.stage_definitions.specs.TypedTrees.{typed_block_term, typed_sentence};
+ghost use Rattle.stage_definitions.specs.TypesStage as stage;
+ghost use Rattle.stage_definitions.specs.TypesStage.{type_noted, IsTyped};
+ghost use Rattle.stage_definitions.specs.FileViews as named_view;
+ghost use Rattle.stage_definitions.specs.FileViews.{kb_view};
+ghost use Rattle.stage_definitions.specs.NamedViews.{definition_view, formula_view, term_view};
 ghost use Rattle.type_derivation.specs.Failures.{FailsWith};
 ghost use Rattle.type_derivation.specs.TypedViews.{named_term_view, named_theory_view, typed_view};
 
@@ -18,10 +18,10 @@ use crate::definitions::definitions;
 use crate::remaining::Remaining;
 use crate::trees;
 use crate::typed::{Named, Places, TypedKb};
-use fo_syntax::KbError;
+use grammar::KbError;
 use kb_logic::{Formula, ListOf, Memory, Term, Theory, Vocabulary};
-use reading_stages::{Earliest, NamedFormula, NamedKb, NamedTerm, NamedTermBlock, NamedTheory};
 use sqlite_items::Items;
+use stage_definitions::{Earliest, NamedFormula, NamedKb, NamedTerm, NamedTermBlock, NamedTheory};
 use std::alloc::Global;
 use type_constraints::{block_term_types, sentence_types};
 

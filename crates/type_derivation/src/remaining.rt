@@ -1,6 +1,6 @@
 //! Types that variables take one after another.
 ghost use Rattle.std.specs.Prelude.{◌≡◌, List, ℕ, drop};
-ghost use Rattle.reading_stages.specs.Demands.{later_types};
+ghost use Rattle.stage_definitions.specs.Demands.{later_types};
 ghost use Rattle.type_derivation.specs.ListedTrees.{first_type};
 
 use std::marker::Model;

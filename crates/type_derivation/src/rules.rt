@@ -2,16 +2,16 @@
 ghost use Rattle.std.specs.Prelude.{◌≡◌, ◌++◌, map, option_map, option_to_list, IfOk, OnOk};
 ghost use Rattle.std.specs.List.{flat_map};
 ghost use Rattle.kb_logic.specs.Views as view;
-ghost use Rattle.reading_stages.specs.NamedTrees.{head_terms};
-ghost use Rattle.reading_stages.specs.NamedViews.{rule_view, term_view};
-ghost use Rattle.reading_stages.specs.TermPlaces.{rule_begins, term_begins};
+ghost use Rattle.stage_definitions.specs.NamedTrees.{head_terms};
+ghost use Rattle.stage_definitions.specs.NamedViews.{rule_view, term_view};
+ghost use Rattle.stage_definitions.specs.TermPlaces.{rule_begins, term_begins};
 ghost use Rattle.type_derivation.specs.ListedTrees as listed;
 ghost use Rattle.type_derivation.specs.TreeLists.{IsBuilt};
 
 use crate::remaining::Remaining;
 use crate::trees::{bound_vars, formula, term, terms};
 use kb_logic::{BoundList, ListOf, Memory, Rule, Term};
-use reading_stages::{NamedRule, NamedTerm};
+use stage_definitions::{NamedRule, NamedTerm};
 use std::alloc::Global;
 
 /// The value of a head, where it has one.

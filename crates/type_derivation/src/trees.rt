@@ -2,18 +2,18 @@
 ghost use Rattle.std.specs.Prelude.{◌≡◌, ◌++◌, pos, map, IfOk, OnOk};
 ghost use Rattle.kb_logic.specs.Trees as tree;
 ghost use Rattle.kb_logic.specs.Views as view;
-ghost use Rattle.reading_stages.specs.NamedTrees as named_tree;
-ghost use Rattle.reading_stages.specs.TermPlaces.{each_begins, formulas_begin, summands_begin, term_begins};
-ghost use Rattle.reading_stages.specs.TermPlaces.{terms_begin};
-ghost use Rattle.reading_stages.specs.TypedTrees as typed;
-ghost use Rattle.reading_stages.specs.NamedViews.{formula_view, signed_view, term_view, var_view};
+ghost use Rattle.stage_definitions.specs.NamedTrees as named_tree;
+ghost use Rattle.stage_definitions.specs.TermPlaces.{each_begins, formulas_begin, summands_begin, term_begins};
+ghost use Rattle.stage_definitions.specs.TermPlaces.{terms_begin};
+ghost use Rattle.stage_definitions.specs.TypedTrees as typed;
+ghost use Rattle.stage_definitions.specs.NamedViews.{formula_view, signed_view, term_view, var_view};
 ghost use Rattle.type_derivation.specs.ListedTrees as listed;
 ghost use Rattle.type_derivation.specs.TreeLists.{IsBuilt};
 
 use crate::remaining::Remaining;
 use kb_logic::{Bound, Formula, Memory, Signed, Term};
-use reading_stages::{NamedFormula, NamedNode, NamedSigned, NamedTerm, NamedVar};
 use sqlite_items::Items;
+use stage_definitions::{NamedFormula, NamedNode, NamedSigned, NamedTerm, NamedVar};
 use std::alloc::Global;
 
 /// An integer of the language, which has 64 bits with its sign.

@@ -1,5 +1,5 @@
 //! A knowledge base whose variables have their types.
-ghost use Rattle.reading_stages.specs.Below.{HasNoCycle, type_parents};
+ghost use Rattle.stage_definitions.specs.Below.{HasNoCycle, type_parents};
 
 use kb_logic::{Name, Term, Theory, Vocabulary};
 use sqlite_items::Items;

@@ -9,7 +9,7 @@ use Rattle.kb_logic.specs.declared.syntax.Term.{Term}
 use Rattle.kb_logic.specs.Bases.{Base}
 use Rattle.kb_logic.specs.Structures.{EachWith}
 use Rattle.derivation_log.specs.declared.claims.Claim.{Claim}
-use Rattle.reading_stages.specs.FileBases.{named_term}
+use Rattle.stage_definitions.specs.FileBases.{named_term}
 use Rattle.type_derivation.specs.declared.typed.Named.{Named}
 use Rattle.type_derivation.specs.TypedViews.{named_term_view}
 use Rattle.atom_numbers.proofs.LiteralFacts.{each-push, each-next}

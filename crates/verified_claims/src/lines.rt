@@ -1,7 +1,7 @@
 //! The lines that say claims. Where memory runs out, a part may have been appended.
 ghost use Rattle.std.specs.Prelude.{◌≡◌, ◌++◌, OnOk, map, slice_get};
 ghost use Rattle.consult_base.specs.Opened.{base_of};
-ghost use Rattle.reading_stages.specs.FileBases.{named_term};
+ghost use Rattle.stage_definitions.specs.FileBases.{named_term};
 ghost use Rattle.type_derivation.specs.TypedViews.{named_term_view};
 ghost use Rattle.verified_claims.specs.ClaimLines.{claim_label, choices_text, claim_text, claim_line, name_of};
 

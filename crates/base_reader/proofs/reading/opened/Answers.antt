@@ -1,4 +1,4 @@
-use Rattle.fo_syntax.specs.BlockView.{structure_view}
+use Rattle.grammar.specs.BlockView.{structure_view}
 use Rattle.type_derivation.specs.TypedViews.{typed_view}
 use Rattle.base_reader.proofs.Stages.{is_opened}
 use Rattle.base_reader.proofs.reading.opened.Goals as goal

@@ -1,6 +1,6 @@
 use Rattle.std.proofs.Common.{arith}
-use Rattle.fo_syntax.specs.BlockView.{structure_view}
-use Rattle.kb_sizes.specs.Measures.{measure_view}
+use Rattle.grammar.specs.BlockView.{structure_view}
+use Rattle.size_stage.specs.Measures.{measure_view}
 use Rattle.type_derivation.specs.TypedViews.{typed_view}
 use Rattle.base_reader.proofs.Stages.{data_ground, data_bounded, open_fails, stage_fails}
 use Rattle.base_reader.proofs.reading.read_known.Goals as goal

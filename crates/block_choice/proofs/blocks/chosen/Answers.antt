@@ -1,5 +1,5 @@
 use Rattle.std.proofs.Common.{◌∙◌, sym}
-use Rattle.reading_stages.proofs.Headers.{position_named}
+use Rattle.stage_definitions.proofs.Headers.{position_named}
 use Rattle.block_choice.proofs.blocks.chosen.Goals as goal
 
 pub returns-in-Some : goal.returns-in-Some

@@ -1,5 +1,5 @@
 use Rattle.std.proofs.Common.{◌≡◌, drop, fold, map}
-use Rattle.reading_stages.specs.BlocksStage.{block_noted, one_of_each}
+use Rattle.stage_definitions.specs.BlocksStage.{block_noted, one_of_each}
 use Rattle.block_choice.proofs.blocks.note_further.Given as goal
 
 abbrev pub invariant-loop-i : goal.invariant-loop-i

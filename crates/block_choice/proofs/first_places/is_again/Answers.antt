@@ -1,4 +1,4 @@
-use Rattle.fo_syntax.specs.View.{name_view}
+use Rattle.grammar.specs.View.{name_view}
 use Rattle.std.proofs.Common.{◌∙◌, ap}
 use Rattle.block_choice.specs.Choices.{is_before}
 use Rattle.block_choice.proofs.first_places.is_again.Goals as goal

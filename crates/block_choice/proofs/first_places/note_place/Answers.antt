@@ -1,5 +1,5 @@
 use Rattle.std.proofs.Common.{◌∙◌, ap, nat_lt, ◌||◌}
-use Rattle.fo_syntax.specs.View.{name_view}
+use Rattle.grammar.specs.View.{name_view}
 use Rattle.block_choice.specs.Choices.{is_before}
 use Rattle.block_choice.proofs.Placing.{place_noted}
 use Rattle.block_choice.proofs.first_places.note_place.Goals as goal

@@ -1,5 +1,5 @@
 use Rattle.std.proofs.Common.{ap, sym}
-use Rattle.reading_stages.specs.Files.{Header}
+use Rattle.stage_definitions.specs.Files.{Header}
 use Rattle.block_choice.proofs.Placing.{more_places}
 use Rattle.block_choice.proofs.first_places.note_places.Goals as goal
 

@@ -1,6 +1,6 @@
 use Rattle.std.proofs.Common.{List, ◌++◌, take, map}
-use Rattle.fo_syntax.specs.Trees.{Name}
-use Rattle.reading_stages.specs.BlocksStage.{header_names}
+use Rattle.grammar.specs.Trees.{Name}
+use Rattle.stage_definitions.specs.BlocksStage.{header_names}
 use Rattle.block_choice.specs.Choices.{AreFirstPlaces}
 use Rattle.block_choice.proofs.first_places.note_places.Given as goal
 

@@ -1,5 +1,5 @@
 use Rattle.block_choice.specs.Choices.{word_given}
-use Rattle.reading_stages.proofs.Headers.{chosen_theory, noted_blocks}
+use Rattle.stage_definitions.proofs.Headers.{chosen_theory, noted_blocks}
 use Rattle.block_choice.proofs.picking.choose_blocks.Goals as goal
 
 pub returns-clause-theory : goal.returns-clause-theory

@@ -1,4 +1,4 @@
-use Rattle.reading_stages.proofs.Headers.{noted_headers}
+use Rattle.stage_definitions.proofs.Headers.{noted_headers}
 use Rattle.block_choice.proofs.picking.note_all_headers.Goals as goal
 
 pub returns : goal.returns

@@ -1,6 +1,6 @@
 use Rattle.std.proofs.Common.{◌≡◌, drop, fold, map}
-use Rattle.reading_stages.specs.BlocksStage.{block_noted, one_of_each}
-use Rattle.reading_stages.specs.FileView.{vocabulary_in}
+use Rattle.stage_definitions.specs.BlocksStage.{block_noted, one_of_each}
+use Rattle.stage_definitions.specs.FileView.{vocabulary_in}
 use Rattle.block_choice.proofs.picking.note_further_vocabularies.Given as goal
 
 abbrev pub invariant-loop-i : goal.invariant-loop-i

@@ -1,7 +1,7 @@
 use Rattle.std.proofs.Common.{◌≡◌, take, fold, map}
 use Rattle.std.specs.List.{flat_map}
-use Rattle.reading_stages.specs.BlocksStage.{block_noted, uses_of_header}
-use Rattle.reading_stages.specs.FileView.{file_in}
+use Rattle.stage_definitions.specs.BlocksStage.{block_noted, uses_of_header}
+use Rattle.stage_definitions.specs.FileView.{file_in}
 use Rattle.block_choice.proofs.picking.note_headers.Given as goal
 
 abbrev pub invariant-loop-block : goal.invariant-loop-block

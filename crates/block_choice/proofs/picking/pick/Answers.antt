@@ -1,8 +1,8 @@
 use Rattle.std.proofs.Common.{◌≡◌, None, Some, fold, sym, ◌∙◌}
-use Rattle.reading_stages.specs.BlocksStage.{block_noted, block_uses}
-use Rattle.reading_stages.specs.FileView.{file_in}
+use Rattle.stage_definitions.specs.BlocksStage.{block_noted, block_uses}
+use Rattle.stage_definitions.specs.FileView.{file_in}
 use Rattle.block_choice.specs.Choices.{word_given}
-use Rattle.reading_stages.proofs.BlockRows.{earliest_refused, picked_blocks}
+use Rattle.stage_definitions.proofs.BlockRows.{earliest_refused, picked_blocks}
 use Rattle.block_choice.proofs.picking.pick.Goals as goal
 
 pub returns-in-None-clause-ok : goal.returns-in-None-clause-ok

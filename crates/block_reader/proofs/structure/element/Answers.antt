@@ -1,5 +1,5 @@
 use Rattle.std.proofs.lemmas.Result.{err_from_is_err_and}
-use Rattle.fo_syntax.specs.Terminals.{toks}
+use Rattle.grammar.specs.Terminals.{toks}
 use Rattle.block_reader.proofs.InStructure.{no_element}
 use Rattle.block_reader.proofs.structure.element.Goals as goal
 

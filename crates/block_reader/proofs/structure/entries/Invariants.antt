@@ -1,7 +1,7 @@
 use Rattle.std.proofs.Common.{◌≡◌, ◌≤◌, length, map}
-use Rattle.fo_syntax.specs.Terminals.{toks}
-use Rattle.fo_syntax.specs.BlockSpelling.{put_each, put_entry}
-use Rattle.fo_syntax.specs.BlockView.{entry_view}
+use Rattle.grammar.specs.Terminals.{toks}
+use Rattle.grammar.specs.BlockSpelling.{put_each, put_entry}
+use Rattle.grammar.specs.BlockView.{entry_view}
 use Rattle.block_reader.proofs.structure.entries.Given as goal
 
 abbrev pub invariant-entries : goal.invariant-entries

@@ -1,6 +1,6 @@
 use Rattle.std.proofs.lemmas.Result.{err_from_is_err_and}
-use Rattle.fo_syntax.specs.Terminals.{toks}
-use Rattle.fo_syntax.specs.View.{name_view}
+use Rattle.grammar.specs.Terminals.{toks}
+use Rattle.grammar.specs.View.{name_view}
 use Rattle.block_reader.proofs.InStructure.{no_header_name, no_header_colon, no_header_of, no_header_brace}
 use Rattle.block_reader.proofs.structure.header.Goals as goal
 

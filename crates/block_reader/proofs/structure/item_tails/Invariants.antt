@@ -1,8 +1,8 @@
 use Rattle.std.proofs.Common.{◌≡◌, ◌≤◌, length, map}
-use Rattle.fo_syntax.specs.declared.terminal.Terminal.TheVariants as t
-use Rattle.fo_syntax.specs.Terminals.{toks}
-use Rattle.fo_syntax.specs.BlockSpelling.{put_each, put_behind, put_item}
-use Rattle.fo_syntax.specs.BlockView.{item_tail_view}
+use Rattle.grammar.specs.declared.terminal.Terminal.TheVariants as t
+use Rattle.grammar.specs.Terminals.{toks}
+use Rattle.grammar.specs.BlockSpelling.{put_each, put_behind, put_item}
+use Rattle.grammar.specs.BlockView.{item_tail_view}
 use Rattle.block_reader.specs.BlockParts.{EndsItem}
 use Rattle.token_reader.specs.Signs.{next}
 use Rattle.block_reader.proofs.structure.item_tails.Given as goal

@@ -1,6 +1,6 @@
 use Rattle.std.proofs.lemmas.Result.{err_from_is_err_and}
-use Rattle.fo_syntax.specs.Terminals.{toks}
-use Rattle.fo_syntax.specs.BlockView.{element_view}
+use Rattle.grammar.specs.Terminals.{toks}
+use Rattle.grammar.specs.BlockView.{element_view}
 use Rattle.block_reader.proofs.InStructure.{lone_element, lone_ends}
 use Rattle.block_reader.proofs.structure.lone.Goals as goal
 

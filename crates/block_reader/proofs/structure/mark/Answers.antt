@@ -1,6 +1,6 @@
 use Rattle.std.proofs.lemmas.Result.{err_from_is_err_and}
-use Rattle.fo_syntax.specs.Terminals.{toks}
-use Rattle.fo_syntax.specs.View.{name_view}
+use Rattle.grammar.specs.Terminals.{toks}
+use Rattle.grammar.specs.View.{name_view}
 use Rattle.block_reader.proofs.InStructure.{no_mark_name, no_mark_close, no_mark_equal}
 use Rattle.block_reader.proofs.structure.mark.Goals as goal
 

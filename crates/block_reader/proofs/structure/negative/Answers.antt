@@ -1,7 +1,7 @@
 use Rattle.std.proofs.Common.{◌∷◌, refl}
-use Rattle.fo_syntax.specs.declared.terminal.Terminal.TheVariants as t
-use Rattle.fo_syntax.specs.declared.terminal.Adding.TheVariants.{Minus}
-use Rattle.fo_syntax.specs.Terminals.{toks, sign}
+use Rattle.grammar.specs.declared.terminal.Terminal.TheVariants as t
+use Rattle.grammar.specs.declared.terminal.Adding.TheVariants.{Minus}
+use Rattle.grammar.specs.Terminals.{toks, sign}
 use Rattle.block_reader.proofs.InStructure.{no_number}
 use Rattle.block_reader.proofs.structure.negative.Goals as goal
 

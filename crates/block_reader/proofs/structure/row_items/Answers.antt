@@ -1,6 +1,6 @@
 use Rattle.std.proofs.lemmas.Result.{err_from_is_err_and}
-use Rattle.fo_syntax.specs.Terminals.{toks}
-use Rattle.fo_syntax.specs.BlockView.{item_view}
+use Rattle.grammar.specs.Terminals.{toks}
+use Rattle.grammar.specs.BlockView.{item_view}
 use Rattle.block_reader.proofs.InStructure.{items_first, items_more}
 use Rattle.block_reader.proofs.structure.row_items.Goals as goal
 

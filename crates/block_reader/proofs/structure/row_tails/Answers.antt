@@ -1,11 +1,11 @@
 use Rattle.std.proofs.Common.{◌∷◌, ◌∙◌, ap, arith, List, map}
 use Rattle.std.proofs.lemmas.Result.{err_from_is_err_and}
 use Rattle.std.proofs.lemmas.List.{map_push}
-use Rattle.fo_syntax.specs.declared.terminal.Terminal.TheVariants as t
-use Rattle.fo_syntax.specs.declared.terminal.Outer.TheVariants as o
-use Rattle.fo_syntax.specs.Terminals.{Tok, toks, sign}
-use Rattle.fo_syntax.specs.BlockSpelling.{put_each, put_behind, put_row}
-use Rattle.fo_syntax.specs.BlockView.{row_tail_view}
+use Rattle.grammar.specs.declared.terminal.Terminal.TheVariants as t
+use Rattle.grammar.specs.declared.terminal.Outer.TheVariants as o
+use Rattle.grammar.specs.Terminals.{Tok, toks, sign}
+use Rattle.grammar.specs.BlockSpelling.{put_each, put_behind, put_row}
+use Rattle.grammar.specs.BlockView.{row_tail_view}
 use Rattle.block_reader.proofs.Formats.{each_step}
 use Rattle.block_reader.proofs.Plain.{behind}
 use Rattle.block_reader.proofs.RowFormats.{row_format}

@@ -1,9 +1,9 @@
 use Rattle.std.proofs.Common.{◌≡◌, ◌≤◌, length, map}
-use Rattle.fo_syntax.specs.declared.terminal.Terminal.TheVariants as t
-use Rattle.fo_syntax.specs.declared.terminal.Outer.TheVariants as o
-use Rattle.fo_syntax.specs.Terminals.{toks}
-use Rattle.fo_syntax.specs.BlockSpelling.{put_each, put_behind, put_row}
-use Rattle.fo_syntax.specs.BlockView.{row_tail_view}
+use Rattle.grammar.specs.declared.terminal.Terminal.TheVariants as t
+use Rattle.grammar.specs.declared.terminal.Outer.TheVariants as o
+use Rattle.grammar.specs.Terminals.{toks}
+use Rattle.grammar.specs.BlockSpelling.{put_each, put_behind, put_row}
+use Rattle.grammar.specs.BlockView.{row_tail_view}
 use Rattle.block_reader.specs.BlockParts.{EndsRow}
 use Rattle.token_reader.specs.Signs.{next}
 use Rattle.block_reader.proofs.structure.row_tails.Given as goal

@@ -1,10 +1,10 @@
 use Rattle.std.proofs.Common.{◌∷◌}
 use Rattle.std.proofs.lemmas.Result.{err_from_is_err_and}
-use Rattle.fo_syntax.specs.declared.terminal.Terminal.TheVariants as t
-use Rattle.fo_syntax.specs.declared.terminal.Outer.TheVariants as o
-use Rattle.fo_syntax.specs.Terminals.{toks, sign}
-use Rattle.fo_syntax.specs.BlockView.{header_view}
-use Rattle.fo_syntax.specs.BlockSpelling.{put_structure}
+use Rattle.grammar.specs.declared.terminal.Terminal.TheVariants as t
+use Rattle.grammar.specs.declared.terminal.Outer.TheVariants as o
+use Rattle.grammar.specs.Terminals.{toks, sign}
+use Rattle.grammar.specs.BlockView.{header_view}
+use Rattle.grammar.specs.BlockSpelling.{put_structure}
 use Rattle.block_reader.proofs.InVocabulary.{closes_there}
 use Rattle.block_reader.proofs.InStructure.{structure_header, structure_entries}
 use Rattle.block_reader.proofs.structure.structure.Goals as goal

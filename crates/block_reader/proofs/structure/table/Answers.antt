@@ -1,7 +1,7 @@
 use Rattle.std.proofs.lemmas.Result.{err_from_is_err_and}
-use Rattle.fo_syntax.specs.Terminals.{toks}
-use Rattle.fo_syntax.specs.BlockView.{row_view}
-use Rattle.fo_syntax.specs.BlockSpelling.{put_value}
+use Rattle.grammar.specs.Terminals.{toks}
+use Rattle.grammar.specs.BlockView.{row_view}
+use Rattle.grammar.specs.BlockSpelling.{put_value}
 use Rattle.block_reader.proofs.InVocabulary.{closes_there}
 use Rattle.block_reader.proofs.InStructure.{table_first, table_more}
 use Rattle.block_reader.proofs.structure.table.Goals as goal

@@ -1,6 +1,6 @@
 use Rattle.std.proofs.lemmas.Result.{err_from_is_err_and}
-use Rattle.fo_syntax.specs.Terminals.{toks}
-use Rattle.fo_syntax.specs.BlockView.{positions_view}
+use Rattle.grammar.specs.Terminals.{toks}
+use Rattle.grammar.specs.BlockView.{positions_view}
 use Rattle.block_reader.proofs.InVocabulary.{arguments_none, arguments_in, arguments_behind}
 use Rattle.block_reader.proofs.vocabulary.arguments.Goals as goal
 

@@ -1,7 +1,7 @@
 use Rattle.std.proofs.Common.{arith, inr}
 use Rattle.std.proofs.lemmas.Result.{err_from_is_err_and}
 use Rattle.std.proofs.lemmas.List.{map_push}
-use Rattle.fo_syntax.specs.Terminals.{toks}
+use Rattle.grammar.specs.Terminals.{toks}
 use Rattle.block_reader.proofs.Formats.{each_step}
 use Rattle.block_reader.proofs.BlockFormats.{declaration_format}
 use Rattle.block_reader.proofs.InVocabulary.{in_declarations}

@@ -1,7 +1,7 @@
 use Rattle.std.proofs.Common.{◌≡◌, ◌≤◌, [], ◌⊎◌, length, map}
-use Rattle.fo_syntax.specs.Terminals.{toks}
-use Rattle.fo_syntax.specs.BlockSpelling.{put_each, put_declaration}
-use Rattle.fo_syntax.specs.BlockView.{declaration_view}
+use Rattle.grammar.specs.Terminals.{toks}
+use Rattle.grammar.specs.BlockSpelling.{put_each, put_declaration}
+use Rattle.grammar.specs.BlockView.{declaration_view}
 use Rattle.block_reader.specs.BlockParts.{EndsDeclaration}
 use Rattle.token_reader.specs.Signs.{next}
 use Rattle.block_reader.proofs.vocabulary.declarations.Given as goal

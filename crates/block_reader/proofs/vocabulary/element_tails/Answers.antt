@@ -1,8 +1,8 @@
 use Rattle.std.proofs.Common.{◌∷◌, ◌∙◌, ap, arith, List}
 use Rattle.std.proofs.lemmas.Result.{err_from_is_err_and}
 use Rattle.std.proofs.lemmas.List.{map_push}
-use Rattle.fo_syntax.specs.Terminals.{Tok, toks, sign}
-use Rattle.fo_syntax.specs.BlockSpelling.{separator}
+use Rattle.grammar.specs.Terminals.{Tok, toks, sign}
+use Rattle.grammar.specs.BlockSpelling.{separator}
 use Rattle.block_reader.proofs.Formats.{each_step}
 use Rattle.block_reader.proofs.BlockFormats.{separated_format}
 use Rattle.block_reader.proofs.InVocabulary.{separated_in, separated_ends}

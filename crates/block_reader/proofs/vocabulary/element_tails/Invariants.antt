@@ -1,7 +1,7 @@
 use Rattle.std.proofs.Common.{◌≡◌, ◌≤◌, length, map}
-use Rattle.fo_syntax.specs.Terminals.{toks}
-use Rattle.fo_syntax.specs.BlockSpelling.{put_each, put_separated}
-use Rattle.fo_syntax.specs.BlockView.{element_tail_view}
+use Rattle.grammar.specs.Terminals.{toks}
+use Rattle.grammar.specs.BlockSpelling.{put_each, put_separated}
+use Rattle.grammar.specs.BlockView.{element_tail_view}
 use Rattle.block_reader.proofs.vocabulary.element_tails.Given as goal
 
 abbrev pub invariant-loop-sign : goal.invariant-loop-sign

@@ -1,8 +1,8 @@
 use Rattle.std.proofs.Common.{◌∷◌, ◌∙◌, ap, arith, List}
 use Rattle.std.proofs.lemmas.Result.{err_from_is_err_and}
 use Rattle.std.proofs.lemmas.List.{map_push}
-use Rattle.fo_syntax.specs.declared.terminal.Terminal.TheVariants as t
-use Rattle.fo_syntax.specs.Terminals.{Tok, toks, sign}
+use Rattle.grammar.specs.declared.terminal.Terminal.TheVariants as t
+use Rattle.grammar.specs.Terminals.{Tok, toks, sign}
 use Rattle.block_reader.proofs.Formats.{each_step, name_format}
 use Rattle.block_reader.proofs.Plain.{behind}
 use Rattle.block_reader.proofs.InVocabulary.{in_name_tails}

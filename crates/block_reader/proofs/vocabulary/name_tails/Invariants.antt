@@ -1,9 +1,9 @@
 use Rattle.std.proofs.Common.{◌≡◌, ◌≤◌, length, map}
-use Rattle.fo_syntax.specs.declared.terminal.Terminal.TheVariants as t
-use Rattle.fo_syntax.specs.Terminals.{toks}
-use Rattle.fo_syntax.specs.Spelling.{put_name}
-use Rattle.fo_syntax.specs.BlockSpelling.{put_each, put_behind}
-use Rattle.fo_syntax.specs.BlockView.{name_tail_view}
+use Rattle.grammar.specs.declared.terminal.Terminal.TheVariants as t
+use Rattle.grammar.specs.Terminals.{toks}
+use Rattle.grammar.specs.Spelling.{put_name}
+use Rattle.grammar.specs.BlockSpelling.{put_each, put_behind}
+use Rattle.grammar.specs.BlockView.{name_tail_view}
 use Rattle.block_reader.proofs.vocabulary.name_tails.Given as goal
 
 abbrev pub invariant-loop-place : goal.invariant-loop-place

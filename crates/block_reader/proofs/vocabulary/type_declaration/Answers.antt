@@ -1,6 +1,6 @@
 use Rattle.std.proofs.lemmas.Result.{err_from_is_err_and}
-use Rattle.fo_syntax.specs.Terminals.{toks}
-use Rattle.fo_syntax.specs.View.{name_view}
+use Rattle.grammar.specs.Terminals.{toks}
+use Rattle.grammar.specs.View.{name_view}
 use Rattle.block_reader.proofs.InVocabulary.{no_type_name, in_isa}
 use Rattle.block_reader.proofs.vocabulary.type_declaration.Goals as goal
 

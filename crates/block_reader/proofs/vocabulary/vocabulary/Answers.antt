@@ -1,7 +1,7 @@
 use Rattle.std.proofs.lemmas.Result.{err_from_is_err_and}
-use Rattle.fo_syntax.specs.Terminals.{toks}
-use Rattle.fo_syntax.specs.View.{name_view}
-use Rattle.fo_syntax.specs.BlockSpelling.{put_vocabulary}
+use Rattle.grammar.specs.Terminals.{toks}
+use Rattle.grammar.specs.View.{name_view}
+use Rattle.grammar.specs.BlockSpelling.{put_vocabulary}
 use Rattle.block_reader.proofs.InVocabulary.{no_vocabulary_name, no_vocabulary_brace, in_vocabulary, closes_there}
 use Rattle.block_reader.proofs.vocabulary.vocabulary.Goals as goal
 

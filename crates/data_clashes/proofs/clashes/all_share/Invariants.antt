@@ -1,6 +1,6 @@
 use Rattle.std.proofs.Common.{◌≡◌, drop, map}
-use Rattle.reading_stages.specs.DataFacts.{all_share}
-use Rattle.data_entries.specs.EntryViews.{cell_view}
+use Rattle.stage_definitions.specs.DataFacts.{all_share}
+use Rattle.structure_entries.specs.EntryViews.{cell_view}
 use Rattle.data_clashes.proofs.clashes.all_share.Given as goal
 
 abbrev pub invariant-loop-i : goal.invariant-loop-i

@@ -1,6 +1,6 @@
 use Rattle.std.proofs.Common.{◌≡◌, drop, map}
-use Rattle.reading_stages.specs.DataFacts.{clashes_with}
-use Rattle.data_entries.specs.EntryViews.{fact_view}
+use Rattle.stage_definitions.specs.DataFacts.{clashes_with}
+use Rattle.structure_entries.specs.EntryViews.{fact_view}
 use Rattle.data_clashes.proofs.clashes.clashes_with.Given as goal
 
 abbrev pub invariant-loop-other : goal.invariant-loop-other

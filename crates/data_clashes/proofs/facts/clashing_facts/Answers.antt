@@ -1,6 +1,6 @@
 use Rattle.std.proofs.Common.{◌∙◌, [], ap, map, fold}
-use Rattle.reading_stages.specs.DataStage as stage
-use Rattle.data_entries.specs.SaidViews.{said_view}
+use Rattle.stage_definitions.specs.DataStage as stage
+use Rattle.structure_entries.specs.SaidViews.{said_view}
 use Rattle.data_clashes.proofs.Opposable.{same_notes}
 use Rattle.data_clashes.proofs.facts.clashing_facts.Goals as goal
 

@@ -1,6 +1,6 @@
 use Rattle.std.proofs.Common.{map}
-use Rattle.data_entries.proofs.Dropped.{front}
-use Rattle.data_entries.specs.SaidViews.{said_view}
+use Rattle.structure_entries.proofs.Dropped.{front}
+use Rattle.structure_entries.specs.SaidViews.{said_view}
 use Rattle.data_clashes.proofs.Opposable.{next_opposable}
 use Rattle.data_clashes.proofs.facts.opposable_facts.Goals as goal
 

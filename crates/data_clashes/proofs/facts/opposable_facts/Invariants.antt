@@ -1,7 +1,7 @@
 use Rattle.std.proofs.Common.{◌≡◌, ◌++◌, drop, map}
-use Rattle.reading_stages.specs.DataFacts.{facts_in}
-use Rattle.data_entries.specs.EntryViews.{fact_view}
-use Rattle.data_entries.specs.SaidViews.{said_view}
+use Rattle.stage_definitions.specs.DataFacts.{facts_in}
+use Rattle.structure_entries.specs.EntryViews.{fact_view}
+use Rattle.structure_entries.specs.SaidViews.{said_view}
 use Rattle.data_clashes.specs.Signs.{opposable}
 use Rattle.data_clashes.proofs.facts.opposable_facts.Given as goal
 

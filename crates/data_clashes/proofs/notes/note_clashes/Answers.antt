@@ -1,8 +1,8 @@
 use Rattle.std.proofs.Common.{◌∙◌, fold, sym, ap, subst, take, Contains, List}
 use Rattle.std.proofs.lemmas.List.{drop_all}
-use Rattle.reading_stages.specs.DataFacts as stated
-use Rattle.reading_stages.specs.DataStage as stage
-use Rattle.data_entries.specs.EntryViews.{fact_view}
+use Rattle.stage_definitions.specs.DataFacts as stated
+use Rattle.stage_definitions.specs.DataStage as stage
+use Rattle.structure_entries.specs.EntryViews.{fact_view}
 use Rattle.data_clashes.specs.SinglesViews.{AreSinglesOf}
 use Rattle.data_clashes.proofs.NextFact.{next_fact, taken_more, views}
 use Rattle.data_clashes.proofs.Kept.{one_more_kept}

@@ -1,9 +1,9 @@
 use Rattle.std.proofs.Common.{◌≡◌, [], List, Contains, drop, fold, map, take}
 use Rattle.kb_logic.specs.declared.vocabularies.TypeDecl.{TypeDecl}
-use Rattle.reading_stages.specs.DataEntries.{Said}
-use Rattle.reading_stages.specs.DataFacts.{Fact}
-use Rattle.reading_stages.specs.DataStage as stage
-use Rattle.data_entries.specs.EntryViews.{fact_view}
+use Rattle.stage_definitions.specs.DataEntries.{Said}
+use Rattle.stage_definitions.specs.DataFacts.{Fact}
+use Rattle.stage_definitions.specs.DataStage as stage
+use Rattle.structure_entries.specs.EntryViews.{fact_view}
 use Rattle.data_clashes.specs.SinglesViews.{AreSinglesOf}
 use Rattle.data_clashes.specs.Tables.{IsKept}
 use Rattle.data_clashes.proofs.notes.note_clashes.Given as goal

@@ -1,5 +1,5 @@
 use Rattle.std.proofs.Common.{map}
-use Rattle.data_entries.specs.EntryViews.{fact_view}
+use Rattle.structure_entries.specs.EntryViews.{fact_view}
 use Rattle.data_clashes.proofs.Kept.{none_clash}
 use Rattle.data_clashes.proofs.notes.note_other.Goals as goal
 

@@ -1,5 +1,5 @@
 use Rattle.std.proofs.Common.{map, inl}
-use Rattle.data_entries.specs.EntryViews.{fact_view}
+use Rattle.structure_entries.specs.EntryViews.{fact_view}
 use Rattle.data_clashes.proofs.notes.note_plain.Goals as goal
 
 pub returns-clause-noted : goal.returns-clause-noted

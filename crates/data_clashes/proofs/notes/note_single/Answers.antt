@@ -1,6 +1,6 @@
 use Rattle.std.proofs.Common.{◌∙◌, ap}
 use Rattle.kb_text.specs.declared.fault.K.TheVariants as k
-use Rattle.reading_stages.specs.Earliest.{noted_if}
+use Rattle.stage_definitions.specs.Earliest.{noted_if}
 use Rattle.data_clashes.proofs.notes.note_single.Goals as goal
 
 pub returns-clause-noted : goal.returns-clause-noted

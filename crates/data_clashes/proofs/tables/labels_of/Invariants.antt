@@ -1,8 +1,8 @@
 use Rattle.std.proofs.Common.{◌≡◌, ◌++◌, drop, map}
 use Rattle.kb_logic.specs.declared.elements.Elem.{Elem}
-use Rattle.reading_stages.specs.Elements.{one}
-use Rattle.data_entries.specs.EntryViews.{cell_view}
-use Rattle.data_notes.specs.Labels.{tuple_view}
+use Rattle.stage_definitions.specs.Elements.{one}
+use Rattle.structure_entries.specs.EntryViews.{cell_view}
+use Rattle.data_refusals.specs.Labels.{tuple_view}
 use Rattle.data_clashes.proofs.tables.labels_of.Given as goal
 
 abbrev pub invariant-loop-cell : goal.invariant-loop-cell

@@ -1,8 +1,8 @@
 use Rattle.std.proofs.Common.{◌≡◌, ◌<◌, List, get_or, length, map, ◌++◌, subst, ap, ◌∙◌}
 use Rattle.std.specs.List.{filter_map}
-use Rattle.reading_stages.specs.DataEntries.{Spot}
-use Rattle.data_entries.specs.declared.rows.Row.{Row}
-use Rattle.data_entries.specs.EntryViews.{cell_view, spot_view, subject_view}
+use Rattle.stage_definitions.specs.DataEntries.{Spot}
+use Rattle.structure_entries.specs.declared.rows.Row.{Row}
+use Rattle.structure_entries.specs.EntryViews.{cell_view, spot_view, subject_view}
 use Rattle.data_domains.proofs.Filled.{cells_next}
 use Rattle.data_domains.proofs.cells.add_given.Goals as goal
 

@@ -1,9 +1,9 @@
 use Rattle.std.proofs.Common.{◌≡◌, ◌++◌, drop, map}
 use Rattle.std.specs.List.{filter_map}
-use Rattle.reading_stages.specs.DataEntries.{Spot}
-use Rattle.reading_stages.specs.DataDomains.{cells_given}
-use Rattle.data_entries.specs.EntryViews.{cell_view, row_view, spots_in, subject_view}
-use Rattle.data_entries.specs.SaidViews.{said_view}
+use Rattle.stage_definitions.specs.DataEntries.{Spot}
+use Rattle.stage_definitions.specs.DataDomains.{cells_given}
+use Rattle.structure_entries.specs.EntryViews.{cell_view, row_view, spots_in, subject_view}
+use Rattle.structure_entries.specs.SaidViews.{said_view}
 use Rattle.data_domains.proofs.cells.add_given.Given as goal
 
 abbrev pub invariant-loop-row : goal.invariant-loop-row

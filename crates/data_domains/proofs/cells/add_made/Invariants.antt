@@ -1,8 +1,8 @@
 use Rattle.std.proofs.Common.{◌≡◌, ◌++◌, List, ℕ, drop, map}
 use Rattle.kb_logic.specs.declared.elements.Elem.TheVariants.{Named}
-use Rattle.reading_stages.specs.Elements.{one}
-use Rattle.reading_stages.specs.DataDomains.{made_cells}
-use Rattle.data_entries.specs.EntryViews.{cell_view}
+use Rattle.stage_definitions.specs.Elements.{one}
+use Rattle.stage_definitions.specs.DataDomains.{made_cells}
+use Rattle.structure_entries.specs.EntryViews.{cell_view}
 use Rattle.data_domains.proofs.cells.add_made.Given as goal
 
 abbrev pub invariant-loop-name : goal.invariant-loop-name

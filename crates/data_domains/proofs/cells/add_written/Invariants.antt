@@ -1,7 +1,7 @@
 use Rattle.std.proofs.Common.{◌≡◌, ◌++◌, drop, map}
 use Rattle.std.specs.List.{filter_map}
-use Rattle.reading_stages.specs.DataEntries.{Spot}
-use Rattle.data_entries.specs.EntryViews.{cell_view, spot_view}
+use Rattle.stage_definitions.specs.DataEntries.{Spot}
+use Rattle.structure_entries.specs.EntryViews.{cell_view, spot_view}
 use Rattle.data_domains.proofs.cells.add_written.Given as goal
 
 abbrev pub invariant-loop-spot : goal.invariant-loop-spot

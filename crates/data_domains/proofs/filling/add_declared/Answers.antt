@@ -1,8 +1,8 @@
 use Rattle.std.proofs.Common.{◌≡◌, ◌<◌, [], ◌∷◌, ◌++◌, ◌+◌, ◌∙◌, ℕ, List, drop, get_or, length, map, refl, sym, ap}
 use Rattle.std.proofs.Common.{subst}
 use Rattle.kb_logic.specs.declared.elements.Elem.TheVariants.{Named}
-use Rattle.reading_stages.specs.Elements.{one}
-use Rattle.data_entries.proofs.Dropped.{front}
+use Rattle.stage_definitions.specs.Elements.{one}
+use Rattle.structure_entries.proofs.Dropped.{front}
 use Rattle.data_domains.specs.Shares.{Takes}
 use Rattle.data_domains.proofs.Filled.{taken_next, takes_nothing}
 use Rattle.data_domains.proofs.filling.add_declared.Goals as goal

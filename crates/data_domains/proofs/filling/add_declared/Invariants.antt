@@ -1,7 +1,7 @@
 use Rattle.std.proofs.Common.{◌≡◌, ◌++◌, List, ℕ, drop, map}
 use Rattle.kb_logic.specs.declared.elements.Elem.TheVariants.{Named}
-use Rattle.reading_stages.specs.Elements.{Cell, one}
-use Rattle.reading_stages.specs.DataDomains.{made_cells}
+use Rattle.stage_definitions.specs.Elements.{Cell, one}
+use Rattle.stage_definitions.specs.DataDomains.{made_cells}
 use Rattle.data_domains.specs.Shares.{Takes}
 use Rattle.data_domains.proofs.filling.add_declared.Given as goal
 

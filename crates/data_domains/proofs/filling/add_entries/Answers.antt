@@ -1,8 +1,8 @@
 use Rattle.std.proofs.Common.{◌++◌, ◌+◌, map, drop, sym, ap, ◌∙◌}
 use Rattle.std.specs.List.{flat_map}
 use Rattle.std.proofs.lemmas.List.{drop_all}
-use Rattle.data_entries.specs.SaidViews.{said_view}
-use Rattle.data_entries.proofs.Dropped.{front}
+use Rattle.structure_entries.specs.SaidViews.{said_view}
+use Rattle.structure_entries.proofs.Dropped.{front}
 use Rattle.data_domains.specs.Shares.{share}
 use Rattle.data_domains.proofs.Filled.{given_all, given_next}
 use Rattle.data_domains.proofs.filling.add_entries.Goals as goal

@@ -1,7 +1,7 @@
 use Rattle.std.proofs.Common.{◌≡◌, ◌++◌, ℕ, List, drop, length, map}
 use Rattle.std.specs.List.{flat_map}
-use Rattle.reading_stages.specs.Elements.{Cell}
-use Rattle.data_entries.specs.SaidViews.{said_view}
+use Rattle.stage_definitions.specs.Elements.{Cell}
+use Rattle.structure_entries.specs.SaidViews.{said_view}
 use Rattle.data_domains.specs.Shares.{share, IsGiven}
 use Rattle.data_domains.specs.declared.traits.Traits.{Traits}
 use Rattle.data_domains.proofs.filling.add_entries.Given as goal

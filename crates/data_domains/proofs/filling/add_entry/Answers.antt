@@ -1,7 +1,7 @@
 use Rattle.std.proofs.Common.{◌++◌, subst, append_assoc}
 use Rattle.std.proofs.lemmas.Result.{on_ok_weaker}
-use Rattle.reading_stages.specs.DataEntries.{spots_of}
-use Rattle.data_entries.specs.SaidViews.{said_view}
+use Rattle.stage_definitions.specs.DataEntries.{spots_of}
+use Rattle.structure_entries.specs.SaidViews.{said_view}
 use Rattle.data_domains.specs.Shares.{listed_share, occurring_share, IsGiven}
 use Rattle.data_domains.proofs.filling.add_entry.Goals as goal
 

@@ -1,10 +1,11 @@
 use Rattle.std.proofs.Common.{[], refl, sym, ◌∙◌}
 use Rattle.std.proofs.lemmas.Result.{on_ok_weaker}
 use Rattle.std.proofs.lemmas.Bool.{eq-eqb}
-use Rattle.reading_stages.specs.DataDomains.{cells_given}
-use Rattle.data_entries.specs.SaidViews.{said_view}
+use Rattle.stage_definitions.specs.DataDomains.{cells_given}
+use Rattle.structure_entries.specs.SaidViews.{said_view}
 use Rattle.data_domains.specs.Shares.{listed_share}
-use Rattle.data_domains.proofs.Filled.{found_there, given_to, is_not_past, no_list, no_own_list, none_given, own_list, takes_nothing}
+use Rattle.data_domains.proofs.Filled.{found_there, given_to, is_not_past, no_list, no_own_list, none_given, own_list}
+use Rattle.data_domains.proofs.Filled.{takes_nothing}
 use Rattle.data_domains.proofs.filling.add_list.Goals as goal
 
 pub returns-in_default-get_mut-clause-given : goal.returns-in_default-get_mut-clause-given

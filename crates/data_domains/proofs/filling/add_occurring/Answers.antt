@@ -1,9 +1,9 @@
 use Rattle.std.proofs.lemmas.List.{drop_all}
 use Rattle.std.proofs.Common.{◌≡◌, ◌≤◌, ◌<◌, ◌∷◌, [], ◌+◌, List, get_or, length, map, drop, ◌++◌, sym, subst, ap, ◌∙◌}
-use Rattle.data_entries.specs.declared.rows.Row.{Row}
-use Rattle.data_entries.specs.EntryViews.{row_view, spot_view, spots_in, subject_view}
-use Rattle.data_entries.proofs.Dropped.{front}
-use Rattle.data_entries.proofs.Spotted.{spots_next}
+use Rattle.structure_entries.specs.declared.rows.Row.{Row}
+use Rattle.structure_entries.specs.EntryViews.{row_view, spot_view, spots_in, subject_view}
+use Rattle.structure_entries.proofs.Dropped.{front}
+use Rattle.structure_entries.proofs.Spotted.{spots_next}
 use Rattle.data_domains.specs.Shares.{occurring_share, IsGiven}
 use Rattle.data_domains.proofs.Filled.{given_all, given_next, share_next}
 use Rattle.data_domains.proofs.filling.add_occurring.Goals as goal

@@ -1,8 +1,8 @@
 use Rattle.std.proofs.Common.{◌≡◌, ◌++◌, ℕ, List, drop, length, map}
-use Rattle.reading_stages.specs.Elements.{Cell}
-use Rattle.reading_stages.specs.DataEntries.{spots_of}
-use Rattle.data_entries.specs.EntryViews.{row_view, spots_in, subject_view}
-use Rattle.data_entries.specs.SaidViews.{said_view}
+use Rattle.stage_definitions.specs.Elements.{Cell}
+use Rattle.stage_definitions.specs.DataEntries.{spots_of}
+use Rattle.structure_entries.specs.EntryViews.{row_view, spots_in, subject_view}
+use Rattle.structure_entries.specs.SaidViews.{said_view}
 use Rattle.data_domains.specs.Shares.{occurring_share, IsGiven}
 use Rattle.data_domains.specs.declared.traits.Traits.{Traits}
 use Rattle.data_domains.proofs.filling.add_occurring.Given as goal

@@ -1,7 +1,7 @@
 use Rattle.std.proofs.Common.{◌≡◌, ◌∷◌, [], None, Some, refl, sym, ◌∙◌, rules}
 use Rattle.std.proofs.lemmas.Bool.{eq-eqb}
 use Rattle.std.proofs.lemmas.Result.{on_ok_weaker}
-use Rattle.data_entries.specs.EntryViews.{cell_view, spot_view}
+use Rattle.structure_entries.specs.EntryViews.{cell_view, spot_view}
 use Rattle.data_domains.specs.Shares.{occurring_share}
 use Rattle.data_domains.proofs.Filled.{found_there, given_to, is_not_past, no_cell, none_given, occurs_elsewhere}
 use Rattle.data_domains.proofs.Filled.{takes_cell, takes_none, takes_nothing}

@@ -1,7 +1,7 @@
 use Rattle.std.proofs.Common.{◌∷◌, [], ◌+◌, map, drop, ◌++◌, sym, ap, ◌∙◌}
 use Rattle.std.proofs.lemmas.List.{drop_all}
-use Rattle.data_entries.specs.EntryViews.{spot_view}
-use Rattle.data_entries.proofs.Dropped.{front}
+use Rattle.structure_entries.specs.EntryViews.{spot_view}
+use Rattle.structure_entries.proofs.Dropped.{front}
 use Rattle.data_domains.specs.Shares.{occurring_share}
 use Rattle.data_domains.proofs.Filled.{given_all, given_next, share_next}
 use Rattle.data_domains.proofs.filling.add_spots.Goals as goal

@@ -1,6 +1,6 @@
 use Rattle.std.proofs.Common.{◌≡◌, ◌++◌, ℕ, List, drop, length, map}
-use Rattle.reading_stages.specs.Elements.{Cell}
-use Rattle.data_entries.specs.EntryViews.{spot_view}
+use Rattle.stage_definitions.specs.Elements.{Cell}
+use Rattle.structure_entries.specs.EntryViews.{spot_view}
 use Rattle.data_domains.specs.Shares.{occurring_share, IsGiven}
 use Rattle.data_domains.specs.declared.traits.Traits.{Traits}
 use Rattle.data_domains.proofs.filling.add_spots.Given as goal

@@ -1,8 +1,8 @@
 use Rattle.std.proofs.Common.{◌≡◌, ◌<◌, ◌∷◌, [], ◌+◌, List, get_or, length, map, drop, ◌++◌, refl, sym, subst, ap, ◌∙◌}
 use Rattle.std.specs.List.{filter_map}
-use Rattle.reading_stages.specs.DataEntries.{Spot}
-use Rattle.data_entries.specs.declared.rows.Row.{Row}
-use Rattle.data_entries.specs.EntryViews.{row_view, spot_view, spots_in, subject_view}
+use Rattle.stage_definitions.specs.DataEntries.{Spot}
+use Rattle.structure_entries.specs.declared.rows.Row.{Row}
+use Rattle.structure_entries.specs.EntryViews.{row_view, spot_view, spots_in, subject_view}
 use Rattle.data_domains.specs.Shares.{Takes}
 use Rattle.data_domains.proofs.Filled.{cells_first, taken_next, takes_nothing}
 use Rattle.data_domains.proofs.filling.add_whole.Goals as goal

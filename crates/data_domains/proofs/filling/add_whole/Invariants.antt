@@ -1,10 +1,10 @@
 use Rattle.std.proofs.Common.{◌≡◌, ◌++◌, List, drop, map}
 use Rattle.std.specs.List.{filter_map}
-use Rattle.reading_stages.specs.Elements.{Cell}
-use Rattle.reading_stages.specs.DataEntries.{Spot}
-use Rattle.reading_stages.specs.DataDomains.{cells_given}
-use Rattle.data_entries.specs.EntryViews.{row_view, spots_in, subject_view}
-use Rattle.data_entries.specs.SaidViews.{said_view}
+use Rattle.stage_definitions.specs.Elements.{Cell}
+use Rattle.stage_definitions.specs.DataEntries.{Spot}
+use Rattle.stage_definitions.specs.DataDomains.{cells_given}
+use Rattle.structure_entries.specs.EntryViews.{row_view, spots_in, subject_view}
+use Rattle.structure_entries.specs.SaidViews.{said_view}
 use Rattle.data_domains.specs.Shares.{Takes}
 use Rattle.data_domains.proofs.filling.add_whole.Given as goal
 

@@ -1,9 +1,9 @@
 use Rattle.std.proofs.Common.{◌≡◌, ◌∷◌, [], ◌+◌, ◌++◌, ◌∙◌, None, Some, drop, map, option_map, refl, sym, ap}
 use Rattle.std.specs.List.{filter_map}
 use Rattle.std.proofs.lemmas.List.Elements.{filter_map-append}
-use Rattle.reading_stages.specs.DataEntries.{Spot}
-use Rattle.data_entries.specs.EntryViews.{cell_view, spot_view}
-use Rattle.data_entries.proofs.Dropped.{front}
+use Rattle.stage_definitions.specs.DataEntries.{Spot}
+use Rattle.structure_entries.specs.EntryViews.{cell_view, spot_view}
+use Rattle.structure_entries.proofs.Dropped.{front}
 use Rattle.data_domains.specs.Shares.{Takes}
 use Rattle.data_domains.proofs.Filled.{cell_written, none_written, taken_next, takes_nothing}
 use Rattle.data_domains.proofs.filling.add_written.Goals as goal

@@ -1,8 +1,8 @@
 use Rattle.std.proofs.Common.{◌≡◌, ◌++◌, List, drop, map}
 use Rattle.std.specs.List.{filter_map}
-use Rattle.reading_stages.specs.Elements.{Cell}
-use Rattle.reading_stages.specs.DataEntries.{Spot}
-use Rattle.data_entries.specs.EntryViews.{spot_view}
+use Rattle.stage_definitions.specs.Elements.{Cell}
+use Rattle.stage_definitions.specs.DataEntries.{Spot}
+use Rattle.structure_entries.specs.EntryViews.{spot_view}
 use Rattle.data_domains.specs.Shares.{Takes}
 use Rattle.data_domains.proofs.filling.add_written.Given as goal
 

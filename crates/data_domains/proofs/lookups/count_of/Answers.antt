@@ -1,7 +1,7 @@
 use Rattle.std.proofs.Common.{sym, ap}
-use Rattle.reading_stages.specs.Elements as set
-use Rattle.reading_stages.specs.DataDomains.{cells_of}
-use Rattle.reading_stages.specs.SizesStage.{capped}
+use Rattle.stage_definitions.specs.Elements as set
+use Rattle.stage_definitions.specs.DataDomains.{cells_of}
+use Rattle.stage_definitions.specs.SizesStage.{capped}
 use Rattle.data_domains.proofs.Looked.{set_at, no_cells}
 use Rattle.data_domains.proofs.lookups.count_of.Goals as goal
 

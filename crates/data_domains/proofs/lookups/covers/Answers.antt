@@ -1,8 +1,8 @@
 use Rattle.std.proofs.Common.{◌∙◌, sym, ap}
-use Rattle.reading_stages.specs.Elements as set
-use Rattle.reading_stages.specs.DataDomains.{cells_of}
-use Rattle.data_entries.specs.EntryViews.{cell_view, elem_view}
-use Rattle.data_entries.specs.declared.elements.Cell.TheVariants.{Span}
+use Rattle.stage_definitions.specs.Elements as set
+use Rattle.stage_definitions.specs.DataDomains.{cells_of}
+use Rattle.structure_entries.specs.EntryViews.{cell_view, elem_view}
+use Rattle.structure_entries.specs.declared.elements.Cell.TheVariants.{Span}
 use Rattle.data_domains.proofs.Looked.{set_at, no_cells}
 use Rattle.data_domains.proofs.lookups.covers.Goals as goal
 

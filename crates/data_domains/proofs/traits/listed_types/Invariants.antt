@@ -1,6 +1,6 @@
 use Rattle.std.proofs.Common.{◌≡◌, ◌<◌, ◌||◌, ℕ, false, drop, get_or, length, map}
-use Rattle.reading_stages.specs.DataDomains.{is_listed}
-use Rattle.data_entries.specs.SaidViews.{said_view}
+use Rattle.stage_definitions.specs.DataDomains.{is_listed}
+use Rattle.structure_entries.specs.SaidViews.{said_view}
 use Rattle.data_domains.proofs.traits.listed_types.Given as goal
 
 abbrev pub invariant-loop-entry : goal.invariant-loop-entry

@@ -1,7 +1,7 @@
 use Rattle.std.proofs.Common.{◌+◌, ◌∙◌, ap, sym, length, map}
 use Rattle.std.proofs.lemmas.List.{length_push}
-use Rattle.data_entries.specs.SaidViews.{said_view}
-use Rattle.reading_stages.specs.DataDomains.{made_cells}
+use Rattle.structure_entries.specs.SaidViews.{said_view}
+use Rattle.stage_definitions.specs.DataDomains.{made_cells}
 use Rattle.data_domains.specs.Shares.{IsDeclaredSo, StandsFor}
 use Rattle.data_domains.specs.Traits.{AreTraitsOf}
 use Rattle.std.proofs.Common.{[], false, get_or, if◌then◌else◌, subst}

@@ -1,6 +1,6 @@
 use Rattle.std.proofs.Common.{◌≡◌, ℕ, Some, length, map, slice_get}
 use Rattle.kb_logic.specs.declared.vocabularies.TypeDecl.{TypeDecl}
-use Rattle.data_entries.specs.SaidViews.{said_view}
+use Rattle.structure_entries.specs.SaidViews.{said_view}
 use Rattle.data_domains.specs.Shares.{IsDeclaredSo}
 use Rattle.data_domains.specs.declared.types.TypeData.{TypeData}
 use Rattle.data_domains.proofs.types.declared_types.Given as goal

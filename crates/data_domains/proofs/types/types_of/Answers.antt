@@ -1,5 +1,5 @@
 use Rattle.std.proofs.Common.{map}
-use Rattle.data_entries.specs.SaidViews.{said_view}
+use Rattle.structure_entries.specs.SaidViews.{said_view}
 use Rattle.data_domains.proofs.Wholes.{all_full, all_given}
 use Rattle.data_domains.proofs.types.types_of.Goals as goal
 

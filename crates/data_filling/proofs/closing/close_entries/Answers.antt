@@ -1,4 +1,4 @@
-use Rattle.data_entries.specs.SaidViews.{said_view}
+use Rattle.structure_entries.specs.SaidViews.{said_view}
 use Rattle.data_filling.proofs.Turns.{subject_after}
 use Rattle.data_filling.proofs.closing.close_entries.Goals as goal
 

@@ -1,5 +1,5 @@
 use Rattle.std.proofs.Common.{map, take}
-use Rattle.data_entries.specs.SaidViews.{said_view}
+use Rattle.structure_entries.specs.SaidViews.{said_view}
 use Rattle.data_filling.specs.Filling.{Closes}
 use Rattle.data_filling.proofs.closing.close_entries.Given as goal
 

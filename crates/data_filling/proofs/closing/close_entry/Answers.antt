@@ -1,8 +1,8 @@
 use Rattle.std.proofs.Common.{Option, Bor, ap, is_none, option_map}
 use Rattle.std.proofs.lemmas.Result.{on_ok_weaker}
-use Rattle.fo_syntax.specs.View.{name_view}
-use Rattle.fo_syntax.specs.declared.raw.RawName.{RawName}
-use Rattle.data_entries.specs.SaidViews.{said_view}
+use Rattle.grammar.specs.View.{name_view}
+use Rattle.grammar.specs.declared.raw.RawName.{RawName}
+use Rattle.structure_entries.specs.SaidViews.{said_view}
 use Rattle.data_filling.proofs.Closings.{marked, closes_entry}
 use Rattle.data_filling.proofs.closing.close_entry.Goals as goal
 

@@ -1,6 +1,6 @@
 use Rattle.std.proofs.Common.{◌≡◌, ◌++◌, drop, map}
-use Rattle.reading_stages.specs.Elements.{one}
-use Rattle.data_entries.specs.EntryViews.{cell_view}
+use Rattle.stage_definitions.specs.Elements.{one}
+use Rattle.structure_entries.specs.EntryViews.{cell_view}
 use Rattle.data_filling.proofs.elements.elems_of.Given as goal
 
 abbrev pub invariant-loop-cell : goal.invariant-loop-cell

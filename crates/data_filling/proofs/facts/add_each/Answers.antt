@@ -1,4 +1,4 @@
-use Rattle.data_entries.specs.EntryViews.{fact_view}
+use Rattle.structure_entries.specs.EntryViews.{fact_view}
 use Rattle.data_filling.proofs.Turns.{fact_after}
 use Rattle.data_filling.proofs.Unopposed.{open_at}
 use Rattle.data_filling.proofs.facts.add_each.Goals as goal

@@ -1,5 +1,5 @@
 use Rattle.std.proofs.Common.{map, take}
-use Rattle.data_entries.specs.EntryViews.{fact_view}
+use Rattle.structure_entries.specs.EntryViews.{fact_view}
 use Rattle.data_filling.specs.Filling.{Adds}
 use Rattle.data_filling.proofs.facts.add_each.Given as goal
 

@@ -1,4 +1,4 @@
-use Rattle.data_entries.specs.SaidViews.{said_view}
+use Rattle.structure_entries.specs.SaidViews.{said_view}
 use Rattle.data_filling.proofs.Turns.{facts_after}
 use Rattle.data_filling.proofs.Unopposed.{open_within}
 use Rattle.data_filling.proofs.facts.add_entries.Goals as goal

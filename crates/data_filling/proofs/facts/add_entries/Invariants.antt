@@ -1,6 +1,6 @@
 use Rattle.std.proofs.Common.{map, take}
-use Rattle.reading_stages.specs.DataFacts.{facts_in}
-use Rattle.data_entries.specs.SaidViews.{said_view}
+use Rattle.stage_definitions.specs.DataFacts.{facts_in}
+use Rattle.structure_entries.specs.SaidViews.{said_view}
 use Rattle.data_filling.specs.Filling.{Adds}
 use Rattle.data_filling.proofs.facts.add_entries.Given as goal
 

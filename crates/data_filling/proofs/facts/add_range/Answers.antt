@@ -1,6 +1,6 @@
-use Rattle.data_entries.specs.EntryViews.{fact_view}
-use Rattle.data_entries.specs.WholeViews.{whole_view}
-use Rattle.reading_stages.specs.Elements.{integers_from}
+use Rattle.structure_entries.specs.EntryViews.{fact_view}
+use Rattle.structure_entries.specs.WholeViews.{whole_view}
+use Rattle.stage_definitions.specs.Elements.{integers_from}
 use Rattle.data_filling.proofs.RangeFacts.{facts_with}
 use Rattle.data_filling.proofs.Unopposed.{open_number}
 use Rattle.data_filling.proofs.Turns.{number_over, next_number, all_numbers}

@@ -1,6 +1,6 @@
-use Rattle.data_entries.specs.EntryViews.{fact_view}
-use Rattle.data_entries.specs.WholeViews.{whole_view}
-use Rattle.reading_stages.specs.Elements.{integers_from}
+use Rattle.structure_entries.specs.EntryViews.{fact_view}
+use Rattle.structure_entries.specs.WholeViews.{whole_view}
+use Rattle.stage_definitions.specs.Elements.{integers_from}
 use Rattle.data_filling.specs.Filling.{Adds}
 use Rattle.data_filling.proofs.RangeFacts.{facts_with}
 use Rattle.data_filling.proofs.facts.add_range.Given as goal

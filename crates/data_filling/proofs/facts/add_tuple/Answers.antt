@@ -2,7 +2,7 @@ use Rattle.std.proofs.Common.{Bool, sym, ap, subst, ◌∙◌}
 use Rattle.std.proofs.lemmas.Result.{on_ok_weaker}
 use Rattle.kb_logic.specs.Models.{GroundAtom, IsAtomOver}
 use Rattle.partial_structures.specs.KnownAtoms.{value_at, with_true, with_false}
-use Rattle.data_entries.specs.EntryViews.{fact_view}
+use Rattle.structure_entries.specs.EntryViews.{fact_view}
 use Rattle.data_filling.specs.Filling.{atom_with}
 use Rattle.data_filling.proofs.Singles.{atom_over}
 use Rattle.data_filling.proofs.Steps.{stated, adds_one}

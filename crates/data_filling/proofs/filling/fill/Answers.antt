@@ -1,6 +1,6 @@
 use Rattle.std.proofs.Common.{map}
-use Rattle.reading_stages.specs.DataFacts.{facts_in}
-use Rattle.data_entries.specs.SaidViews.{said_view}
+use Rattle.stage_definitions.specs.DataFacts.{facts_in}
+use Rattle.structure_entries.specs.SaidViews.{said_view}
 use Rattle.data_filling.proofs.Turns.{each_type, are_distinct, facts_at_first, subjects_then, filled}
 use Rattle.data_filling.proofs.Unopposed.{open_at_first}
 use Rattle.data_filling.proofs.filling.fill.Goals as goal

@@ -2,8 +2,8 @@ use Rattle.std.proofs.Common.{◌≡◌, List, Some, false, true, ap, map, sym, 
 use Rattle.std.proofs.lemmas.Result.{on_ok_weaker}
 use Rattle.std.specs.List.{AllByRecursion}
 use Rattle.row_tries.specs.Lent.{lent_view}
-use Rattle.reading_stages.specs.DataFacts.{Fact}
-use Rattle.data_entries.specs.EntryViews.{row_view, subject_view}
+use Rattle.stage_definitions.specs.DataFacts.{Fact}
+use Rattle.structure_entries.specs.EntryViews.{row_view, subject_view}
 use Rattle.data_filling.specs.Filling.{Adds, IsFactOver, IsOpenTo}
 use Rattle.data_filling.proofs.RowsOver.{nothing_said, single_said, unfit}
 use Rattle.data_filling.proofs.Steps.{adds_nothing}

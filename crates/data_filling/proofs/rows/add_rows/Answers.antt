@@ -1,9 +1,9 @@
 use Rattle.std.proofs.Common.{◌≡◌, ◌<◌, ◌+◌, ◌∙◌, ◌++◌, ◌∷◌, [], ℕ, Bool, List, get_or, length, map, refl, sym}
 use Rattle.std.proofs.Common.{ap, subst, append_assoc, append-nil}
-use Rattle.reading_stages.specs.DataEntries.{Subject}
-use Rattle.reading_stages.specs.DataFacts.{Fact}
-use Rattle.data_entries.specs.EntryViews.{row_view, subject_view}
-use Rattle.data_entries.specs.declared.rows.Row.{Row}
+use Rattle.stage_definitions.specs.DataEntries.{Subject}
+use Rattle.stage_definitions.specs.DataFacts.{Fact}
+use Rattle.structure_entries.specs.EntryViews.{row_view, subject_view}
+use Rattle.structure_entries.specs.declared.rows.Row.{Row}
 use Rattle.data_filling.specs.Filling.{Adds, row_facts}
 use Rattle.data_filling.proofs.RowsOver.{left, next_left, none_left}
 use Rattle.data_filling.proofs.Steps.{adds_nothing, adds_then}

@@ -1,6 +1,6 @@
 use Rattle.std.proofs.Common.{◌≡◌, ◌++◌, List, drop, map}
-use Rattle.reading_stages.specs.DataFacts.{Fact}
-use Rattle.data_entries.specs.EntryViews.{row_view, subject_view}
+use Rattle.stage_definitions.specs.DataFacts.{Fact}
+use Rattle.structure_entries.specs.EntryViews.{row_view, subject_view}
 use Rattle.data_filling.specs.Filling.{Adds, row_facts}
 use Rattle.data_filling.proofs.rows.add_rows.Given as goal
 

@@ -3,7 +3,7 @@ use Rattle.std.proofs.lemmas.Result.{on_ok_weaker}
 use Rattle.kb_logic.specs.Models.{GroundAtom, IsAtomOver}
 use Rattle.partial_structures.specs.KnownAtoms.{value_at, with_true, with_false}
 use Rattle.row_tries.specs.Lent.{lent_view}
-use Rattle.data_entries.specs.EntryViews.{row_view}
+use Rattle.structure_entries.specs.EntryViews.{row_view}
 use Rattle.data_filling.specs.Filling.{atom_with, single_fact}
 use Rattle.data_filling.proofs.RowsOver.{row_atom}
 use Rattle.data_filling.proofs.Singles.{atom_over}

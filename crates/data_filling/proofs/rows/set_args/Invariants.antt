@@ -2,8 +2,8 @@ use Rattle.std.proofs.Common.{◌≡◌, ◌++◌, List, length, map}
 use Rattle.std.specs.Option.{option_map}
 use Rattle.kb_logic.specs.declared.elements.Elem.{Elem}
 use Rattle.row_tries.specs.Lent.{lent_view}
-use Rattle.reading_stages.specs.DataFacts.{single_elements}
-use Rattle.data_entries.specs.EntryViews.{items_of}
+use Rattle.stage_definitions.specs.DataFacts.{single_elements}
+use Rattle.structure_entries.specs.EntryViews.{items_of}
 use Rattle.data_filling.proofs.rows.set_args.Given as goal
 
 abbrev pub invariant-loop-item : goal.invariant-loop-item

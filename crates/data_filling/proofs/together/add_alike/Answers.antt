@@ -1,6 +1,6 @@
 use Rattle.std.proofs.Common.{◌≡◌, ◌∙◌, IfSome, map, ap, subst, sym}
 use Rattle.std.proofs.lemmas.Result.{on_ok_weaker}
-use Rattle.data_entries.specs.EntryViews.{cell_view, fact_view}
+use Rattle.structure_entries.specs.EntryViews.{cell_view, fact_view}
 use Rattle.data_filling.specs.Together.{facts_over, placeless}
 use Rattle.data_filling.proofs.TogetherFacts.{adds_anywhere, cells_some, open_anywhere, over_anywhere}
 use Rattle.data_filling.proofs.together.add_alike.Goals as goal

@@ -1,7 +1,7 @@
 use Rattle.std.proofs.Common.{◌∙◌, map, ap, sym, subst}
 use Rattle.std.specs.List.{AllByRecursion}
 use Rattle.std.proofs.lemmas.Result.{on_ok_weaker}
-use Rattle.data_entries.specs.EntryViews.{cell_view, fact_view}
+use Rattle.structure_entries.specs.EntryViews.{cell_view, fact_view}
 use Rattle.data_filling.specs.Filling.{Adds, IsFactOver, IsOpenTo}
 use Rattle.data_filling.specs.Together.{cells_in, facts_over}
 use Rattle.data_filling.proofs.Steps.{adds_same}

@@ -1,5 +1,5 @@
 use Rattle.std.proofs.Common.{map, ap}
-use Rattle.data_entries.specs.EntryViews.{fact_view}
+use Rattle.structure_entries.specs.EntryViews.{fact_view}
 use Rattle.data_filling.proofs.TogetherFacts.{set_facts}
 use Rattle.data_filling.proofs.together.facts_of.Goals as goal
 

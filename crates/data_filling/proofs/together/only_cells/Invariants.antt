@@ -1,5 +1,5 @@
 use Rattle.std.proofs.Common.{◌≡◌, map, take}
-use Rattle.data_entries.specs.EntryViews.{cell_view, fact_view}
+use Rattle.structure_entries.specs.EntryViews.{cell_view, fact_view}
 use Rattle.data_filling.specs.Together.{facts_over, placeless}
 use Rattle.data_filling.proofs.together.only_cells.Given as goal
 

@@ -1,7 +1,7 @@
 use Rattle.std.proofs.Common.{◌≡◌, ◌++◌, drop, map}
-use Rattle.reading_stages.specs.Elements.{span}
-use Rattle.data_entries.specs.EntryViews.{fact_view}
-use Rattle.element_sets.specs.Sets.{interval_view}
+use Rattle.stage_definitions.specs.Elements.{span}
+use Rattle.structure_entries.specs.EntryViews.{fact_view}
+use Rattle.data_domains.specs.Sets.{interval_view}
 use Rattle.data_filling.specs.Together.{facts_over}
 use Rattle.data_filling.proofs.together.push_intervals.Given as goal
 

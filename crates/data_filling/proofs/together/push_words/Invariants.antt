@@ -1,7 +1,7 @@
 use Rattle.std.proofs.Common.{◌≡◌, ◌++◌, drop, map}
 use Rattle.kb_logic.specs.declared.elements.Elem.TheVariants as elem
-use Rattle.reading_stages.specs.Elements.{one}
-use Rattle.data_entries.specs.EntryViews.{fact_view}
+use Rattle.stage_definitions.specs.Elements.{one}
+use Rattle.structure_entries.specs.EntryViews.{fact_view}
 use Rattle.data_filling.specs.Together.{facts_over}
 use Rattle.data_filling.proofs.together.push_words.Given as goal
 

@@ -1,4 +1,4 @@
-use Rattle.block_laws.proofs.ReadBack.{blocks_are_read_back}
+use Rattle.printed_texts.proofs.BlocksReadBack.{blocks_are_read_back}
 use Rattle.fo_printer.proofs.block.print_block.Goals as goal
 
 pub returns-clause-back : goal.returns-clause-back

@@ -1,6 +1,6 @@
 use Rattle.std.proofs.Common.{rules}
 use Rattle.std.specs.List.{enumerate_from}
-use Rattle.block_texts.specs.Entries.{type_entries, symbol_entries}
+use Rattle.printed_texts.specs.Entries.{type_entries, symbol_entries}
 use Rattle.fo_printer.proofs.Written.{all_written}
 use Rattle.fo_printer.proofs.block.push_entries.Goals as goal
 

@@ -1,7 +1,7 @@
 use Rattle.std.proofs.Common.{◌≡◌, ◌++◌, drop, flat_map}
 use Rattle.std.specs.List.{enumerate_from}
-use Rattle.block_texts.specs.Entries.{symbol_entries}
-use Rattle.block_texts.specs.Texts.{entries_text}
+use Rattle.printed_texts.specs.Entries.{symbol_entries}
+use Rattle.printed_texts.specs.Texts.{entries_text}
 use Rattle.fo_printer.proofs.block.push_symbols.Given as goal
 
 abbrev pub invariant-loop-number : goal.invariant-loop-number

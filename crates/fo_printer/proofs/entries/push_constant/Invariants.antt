@@ -1,5 +1,5 @@
 use Rattle.std.proofs.Common.{◌≡◌, drop, true}
-use Rattle.block_texts.specs.Entries.{function_atoms, lone_value, rows_where}
+use Rattle.printed_texts.specs.Entries.{function_atoms, lone_value, rows_where}
 use Rattle.fo_printer.proofs.entries.push_constant.Given as goal
 
 abbrev pub invariant-loop-x : goal.invariant-loop-x

@@ -1,6 +1,6 @@
 use Rattle.std.proofs.Common.{◌≡◌, ◌++◌, take, map, flat_map}
-use Rattle.block_texts.specs.Entries.{alone}
-use Rattle.block_texts.specs.Texts.{next_row_text}
+use Rattle.printed_texts.specs.Entries.{alone}
+use Rattle.printed_texts.specs.Texts.{next_row_text}
 use Rattle.fo_printer.proofs.entries.push_domain.Given as goal
 
 abbrev pub invariant-loop-elem : goal.invariant-loop-elem

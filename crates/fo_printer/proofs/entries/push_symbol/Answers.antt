@@ -2,7 +2,7 @@ use Rattle.std.proofs.Common.{◌≡◌, ℕ, refl, sym, ◌∙◌, false}
 use Rattle.std.specs.Prelude.{codes}
 use Rattle.kb_logic.specs.declared.vocabularies.Symbol.{Symbol}
 use Rattle.kb_logic.specs.KnownAtoms.{KnownAtoms}
-use Rattle.block_texts.specs.Entries.{marked, true_rows, false_rows, is_whole}
+use Rattle.printed_texts.specs.Entries.{marked, true_rows, false_rows, is_whole}
 use Rattle.fo_printer.proofs.Written.{two_written}
 use Rattle.fo_printer.proofs.entries.push_symbol.Goals as goal
 

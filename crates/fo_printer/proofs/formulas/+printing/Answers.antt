@@ -4,9 +4,9 @@ use Rattle.kb_text.specs.Tokens.{unsupported_call_words}
 use Rattle.kb_logic.specs.declared.syntax.Signed.{Signed}
 use Rattle.kb_logic.specs.Trees.{terms_of}
 use Rattle.kb_logic.specs.Views.{formula_view, term_view, signed_view}
-use Rattle.formula_texts.specs.Formulas.{add_text}
-use Rattle.formula_texts.specs.FormulaTexts.{opened_text, spaced_text, minus_text}
-use Rattle.formula_texts.specs.FormulaPrints.{formula_text, term_text, terms_text, arguments_text}
+use Rattle.printed_texts.specs.Formulas.{add_text}
+use Rattle.printed_texts.specs.FormulaTexts.{opened_text, spaced_text, minus_text}
+use Rattle.printed_texts.specs.FormulaPrints.{formula_text, term_text, terms_text, arguments_text}
 use Rattle.fo_printer.proofs.Later.{formulas_later, terms_later, summands_later, some_arguments, listed, three}
 use Rattle.fo_printer.proofs.formulas.+printing.Goals as goal
 

@@ -1,8 +1,8 @@
 use Rattle.std.proofs.Common.{◌≡◌, ◌++◌, take, flat_map}
 use Rattle.kb_logic.specs.Views.{formula_view, term_view, signed_view}
-use Rattle.formula_texts.specs.Formulas.{add_text}
-use Rattle.formula_texts.specs.FormulaTexts.{spaced_text}
-use Rattle.formula_texts.specs.FormulaPrints.{formula_text, term_text}
+use Rattle.printed_texts.specs.Formulas.{add_text}
+use Rattle.printed_texts.specs.FormulaTexts.{spaced_text}
+use Rattle.printed_texts.specs.FormulaPrints.{formula_text, term_text}
 use Rattle.fo_printer.proofs.formulas.+printing.Given as goal
 
 abbrev pub invariant-push_formulas-loop-formula : goal.invariant-push_formulas-loop-formula

@@ -1,5 +1,5 @@
 use Rattle.kb_logic.specs.Views.{formula_view}
-use Rattle.formula_texts.proofs.ReadBack.{formulas_are_read_back, depth_alone_is_refused}
+use Rattle.printed_texts.proofs.FormulasReadBack.{formulas_are_read_back, depth_alone_is_refused}
 use Rattle.fo_printer.proofs.formulas.print_formula.Goals as goal
 
 pub returns-clause-back : goal.returns-clause-back

@@ -1,5 +1,5 @@
 use Rattle.std.proofs.Common.{◌≡◌, ◌++◌, take, codes, flat_map}
-use Rattle.formula_texts.specs.FormulaPrints.{bound_text}
+use Rattle.printed_texts.specs.FormulaPrints.{bound_text}
 use Rattle.fo_printer.proofs.formulas.push_bounds.Given as goal
 
 abbrev pub invariant-loop-bound : goal.invariant-loop-bound

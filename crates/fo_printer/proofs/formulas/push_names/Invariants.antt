@@ -1,5 +1,5 @@
 use Rattle.std.proofs.Common.{◌≡◌, ◌++◌, take}
-use Rattle.formula_texts.specs.FormulaPrints.{bound_names}
+use Rattle.printed_texts.specs.FormulaPrints.{bound_names}
 use Rattle.fo_printer.proofs.formulas.push_names.Given as goal
 
 abbrev pub invariant-loop-bound : goal.invariant-loop-bound

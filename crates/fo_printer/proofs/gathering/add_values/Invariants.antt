@@ -1,5 +1,5 @@
 use Rattle.std.proofs.Common.{◌≡◌, take}
-use Rattle.block_texts.specs.Entries.{function_atoms, is_some_row, rows_where}
+use Rattle.printed_texts.specs.Entries.{function_atoms, is_some_row, rows_where}
 use Rattle.fo_printer.specs.Gathering.{HasMore}
 use Rattle.fo_printer.proofs.gathering.add_values.Given as goal
 

@@ -1,7 +1,7 @@
 use Rattle.std.proofs.lemmas.Result.{err_from_is_err_and}
-use Rattle.fo_syntax.specs.Terminals.{toks}
-use Rattle.fo_syntax.specs.Spelling.{put_name}
-use Rattle.fo_syntax.specs.View.{name_view, app_view}
+use Rattle.grammar.specs.Terminals.{toks}
+use Rattle.grammar.specs.Spelling.{put_name}
+use Rattle.grammar.specs.View.{name_view, app_view}
 use Rattle.fo_reader.proofs.FormulaFormats.{ended_app}
 use Rattle.formula_reader.proofs.InOperands.{arguments_from}
 use Rattle.fo_reader.proofs.Beyond.{app_fails, app_unsealed}

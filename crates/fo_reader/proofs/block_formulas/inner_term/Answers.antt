@@ -1,5 +1,5 @@
 use Rattle.std.proofs.lemmas.Result.{err_from_is_err_and}
-use Rattle.fo_syntax.specs.Terminals.{toks}
+use Rattle.grammar.specs.Terminals.{toks}
 use Rattle.fo_reader.proofs.Beyond.{term_fails}
 use Rattle.fo_reader.proofs.block_formulas.inner_term.Goals as goal
 

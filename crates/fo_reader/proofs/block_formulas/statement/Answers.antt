@@ -1,7 +1,7 @@
 use Rattle.std.proofs.Common.{ap}
 use Rattle.std.proofs.lemmas.Result.{err_from_is_err_and}
-use Rattle.fo_syntax.specs.Terminals.{toks}
-use Rattle.fo_syntax.specs.View.{formula_view}
+use Rattle.grammar.specs.Terminals.{toks}
+use Rattle.grammar.specs.View.{formula_view}
 use Rattle.token_reader.specs.Signs.{next}
 use Rattle.fo_reader.proofs.Beyond.{formula_fails}
 use Rattle.fo_reader.proofs.InTheory.{no_statement}

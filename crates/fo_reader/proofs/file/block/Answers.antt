@@ -1,5 +1,5 @@
 use Rattle.std.proofs.lemmas.Result.{err_from_is_err_and}
-use Rattle.fo_syntax.specs.Terminals.{toks}
+use Rattle.grammar.specs.Terminals.{toks}
 use Rattle.fo_reader.proofs.InFile.{in_vocabulary_block, in_theory_block, in_structure_block, in_term_block, no_block}
 use Rattle.fo_reader.proofs.file.block.Goals as goal
 

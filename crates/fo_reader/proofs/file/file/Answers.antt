@@ -1,8 +1,8 @@
 use Rattle.std.proofs.Common.{◌∷◌, [], ◌++◌, ◌∙◌, ap, sym}
 use Rattle.std.proofs.lemmas.Result.{err_from_is_err_and}
-use Rattle.fo_syntax.specs.Terminals.{toks}
+use Rattle.grammar.specs.Terminals.{toks}
 use Rattle.fo_reader.specs.FileResults.{block_view}
-use Rattle.fo_syntax.specs.BlockSpelling.{put_file}
+use Rattle.grammar.specs.BlockSpelling.{put_file}
 use Rattle.block_reader.proofs.Formats.{each_step, push_fine}
 use Rattle.fo_reader.proofs.TheoryFormats.{block_format}
 use Rattle.fo_reader.proofs.InFile.{file_fails}

@@ -1,9 +1,9 @@
 use Rattle.std.proofs.Common.{◌≡◌, List, length}
-use Rattle.fo_syntax.specs.Terminals.{toks}
-use Rattle.fo_syntax.specs.BlockTrees.{Block}
-use Rattle.fo_syntax.specs.BlockSpelling.{put_file}
-use Rattle.fo_syntax.specs.BlockFine.{FineFile}
-use Rattle.fo_syntax.specs.BlockView.{IsKb}
+use Rattle.grammar.specs.Terminals.{toks}
+use Rattle.grammar.specs.BlockTrees.{Block}
+use Rattle.grammar.specs.BlockSpelling.{put_file}
+use Rattle.grammar.specs.BlockFine.{FineFile}
+use Rattle.grammar.specs.BlockView.{IsKb}
 use Rattle.fo_reader.proofs.file.file.Given as goal
 
 abbrev pub invariant-turns : goal.invariant-turns

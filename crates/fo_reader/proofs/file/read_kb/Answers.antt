@@ -1,5 +1,5 @@
 use Rattle.std.proofs.Common.{arith}
-use Rattle.fo_syntax.specs.FileReads.{too_long}
+use Rattle.grammar.specs.FileReads.{too_long}
 use Rattle.fo_reader.proofs.InFile.{file_answered, file_refused_early}
 use Rattle.fo_reader.proofs.file.read_kb.Goals as goal
 

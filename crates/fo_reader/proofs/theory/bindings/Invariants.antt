@@ -1,7 +1,7 @@
 use Rattle.std.proofs.Common.{◌≡◌, ◌≤◌, length, map}
-use Rattle.fo_syntax.specs.Terminals.{toks}
-use Rattle.fo_syntax.specs.BlockSpelling.{put_each, put_binding}
-use Rattle.fo_syntax.specs.BlockView.{binding_view}
+use Rattle.grammar.specs.Terminals.{toks}
+use Rattle.grammar.specs.BlockSpelling.{put_each, put_binding}
+use Rattle.grammar.specs.BlockView.{binding_view}
 use Rattle.fo_reader.proofs.theory.bindings.Given as goal
 
 abbrev pub invariant-loop-place : goal.invariant-loop-place

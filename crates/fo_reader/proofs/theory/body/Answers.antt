@@ -1,5 +1,5 @@
 use Rattle.std.proofs.lemmas.Result.{err_from_is_err_and}
-use Rattle.fo_syntax.specs.Terminals.{toks}
+use Rattle.grammar.specs.Terminals.{toks}
 use Rattle.fo_reader.proofs.InTheory.{no_body, in_body}
 use Rattle.fo_reader.proofs.theory.body.Goals as goal
 

@@ -1,6 +1,6 @@
 use Rattle.std.proofs.lemmas.Result.{err_from_is_err_and}
-use Rattle.fo_syntax.specs.Terminals.{toks}
-use Rattle.fo_syntax.specs.BlockView.{head_view}
+use Rattle.grammar.specs.Terminals.{toks}
+use Rattle.grammar.specs.BlockView.{head_view}
 use Rattle.fo_reader.proofs.InTheory.{clause_head, clause_end}
 use Rattle.fo_reader.proofs.theory.clause.Goals as goal
 

@@ -1,9 +1,9 @@
 use Rattle.std.proofs.Common.{◌∷◌}
 use Rattle.std.proofs.lemmas.Result.{err_from_is_err_and}
-use Rattle.fo_syntax.specs.declared.terminal.Terminal.TheVariants as t
-use Rattle.fo_syntax.specs.Terminals.{toks, sign}
-use Rattle.fo_syntax.specs.BlockSpelling.{put_theory_item}
-use Rattle.fo_syntax.specs.BlockFine.{FineTheoryItem}
+use Rattle.grammar.specs.declared.terminal.Terminal.TheVariants as t
+use Rattle.grammar.specs.Terminals.{toks, sign}
+use Rattle.grammar.specs.BlockSpelling.{put_theory_item}
+use Rattle.grammar.specs.BlockFine.{FineTheoryItem}
 use Rattle.block_reader.specs.BlockParts.{Anything}
 use Rattle.fo_reader.proofs.InTheory.{in_definition, comes_there}
 use Rattle.fo_reader.proofs.theory.definition.Goals as goal

@@ -1,7 +1,7 @@
 use Rattle.std.proofs.lemmas.Result.{err_from_is_err_and}
-use Rattle.fo_syntax.specs.declared.terminal.Terminal.TheVariants as t
-use Rattle.fo_syntax.specs.declared.terminal.Outer.TheVariants as o
-use Rattle.fo_syntax.specs.Terminals.{toks}
+use Rattle.grammar.specs.declared.terminal.Terminal.TheVariants as t
+use Rattle.grammar.specs.declared.terminal.Outer.TheVariants as o
+use Rattle.grammar.specs.Terminals.{toks}
 use Rattle.block_reader.specs.BlockParts.{Anything}
 use Rattle.fo_reader.specs.TheoryReads.{put_ended, FineEnded}
 use Rattle.fo_reader.proofs.InTheory.{ended_first, comes_there}

@@ -1,6 +1,6 @@
 use Rattle.std.proofs.lemmas.Result.{err_from_is_err_and}
-use Rattle.fo_syntax.specs.Terminals.{toks}
-use Rattle.fo_syntax.specs.View.{app_view, term_view}
+use Rattle.grammar.specs.Terminals.{toks}
+use Rattle.grammar.specs.View.{app_view, term_view}
 use Rattle.fo_reader.proofs.InTheory.{head_first, head_alone, in_head_value, behind_head_value}
 use Rattle.fo_reader.proofs.theory.head.Goals as goal
 

@@ -1,5 +1,5 @@
 use Rattle.std.proofs.lemmas.Result.{err_from_is_err_and}
-use Rattle.fo_syntax.specs.Terminals.{toks}
+use Rattle.grammar.specs.Terminals.{toks}
 use Rattle.fo_reader.proofs.InTheory.{rule_bindings, rule_clause}
 use Rattle.fo_reader.proofs.theory.rule.Goals as goal
 

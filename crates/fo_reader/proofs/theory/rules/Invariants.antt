@@ -1,8 +1,8 @@
 use Rattle.std.proofs.Common.{◌≡◌, ◌≤◌, length, map}
-use Rattle.fo_syntax.specs.Terminals.{toks}
-use Rattle.fo_syntax.specs.BlockSpelling.{put_each, put_rule}
-use Rattle.fo_syntax.specs.BlockFine.{FineEach, FineRule}
-use Rattle.fo_syntax.specs.BlockView.{rule_view}
+use Rattle.grammar.specs.Terminals.{toks}
+use Rattle.grammar.specs.BlockSpelling.{put_each, put_rule}
+use Rattle.grammar.specs.BlockFine.{FineEach, FineRule}
+use Rattle.grammar.specs.BlockView.{rule_view}
 use Rattle.fo_reader.proofs.theory.rules.Given as goal
 
 abbrev pub invariant-rules : goal.invariant-rules

@@ -1,12 +1,12 @@
 use Rattle.std.proofs.Common.{◌∷◌}
 use Rattle.std.proofs.lemmas.Result.{err_from_is_err_and}
-use Rattle.fo_syntax.specs.declared.terminal.Terminal.TheVariants as t
-use Rattle.fo_syntax.specs.declared.terminal.Outer.TheVariants as o
-use Rattle.fo_syntax.specs.Terminals.{toks, sign}
-use Rattle.fo_syntax.specs.View.{term_view}
-use Rattle.fo_syntax.specs.BlockSpelling.{put_term_block}
-use Rattle.fo_syntax.specs.BlockFine.{FineTermBlock}
-use Rattle.fo_syntax.specs.BlockView.{header_view}
+use Rattle.grammar.specs.declared.terminal.Terminal.TheVariants as t
+use Rattle.grammar.specs.declared.terminal.Outer.TheVariants as o
+use Rattle.grammar.specs.Terminals.{toks, sign}
+use Rattle.grammar.specs.View.{term_view}
+use Rattle.grammar.specs.BlockSpelling.{put_term_block}
+use Rattle.grammar.specs.BlockFine.{FineTermBlock}
+use Rattle.grammar.specs.BlockView.{header_view}
 use Rattle.block_reader.specs.BlockParts.{Anything}
 use Rattle.fo_reader.proofs.InTheory.{term_header, term_value, term_stop, comes_there}
 use Rattle.fo_reader.proofs.theory.term_block.Goals as goal

@@ -1,11 +1,11 @@
 use Rattle.std.proofs.Common.{◌∷◌}
 use Rattle.std.proofs.lemmas.Result.{err_from_is_err_and}
-use Rattle.fo_syntax.specs.declared.terminal.Terminal.TheVariants as t
-use Rattle.fo_syntax.specs.declared.terminal.Outer.TheVariants as o
-use Rattle.fo_syntax.specs.Terminals.{toks, sign}
-use Rattle.fo_syntax.specs.BlockSpelling.{put_theory}
-use Rattle.fo_syntax.specs.BlockFine.{FineTheory}
-use Rattle.fo_syntax.specs.BlockView.{header_view}
+use Rattle.grammar.specs.declared.terminal.Terminal.TheVariants as t
+use Rattle.grammar.specs.declared.terminal.Outer.TheVariants as o
+use Rattle.grammar.specs.Terminals.{toks, sign}
+use Rattle.grammar.specs.BlockSpelling.{put_theory}
+use Rattle.grammar.specs.BlockFine.{FineTheory}
+use Rattle.grammar.specs.BlockView.{header_view}
 use Rattle.block_reader.specs.BlockParts.{Anything}
 use Rattle.fo_reader.proofs.InTheory.{theory_header, theory_items, comes_there}
 use Rattle.fo_reader.proofs.theory.theory.Goals as goal

@@ -1,9 +1,9 @@
 use Rattle.std.proofs.lemmas.Result.{err_from_is_err_and}
-use Rattle.fo_syntax.specs.declared.terminal.Terminal.TheVariants as t
-use Rattle.fo_syntax.specs.declared.terminal.Outer.TheVariants as o
-use Rattle.fo_syntax.specs.Terminals.{toks}
-use Rattle.fo_syntax.specs.BlockSpelling.{put_theory_item}
-use Rattle.fo_syntax.specs.BlockFine.{FineTheoryItem}
+use Rattle.grammar.specs.declared.terminal.Terminal.TheVariants as t
+use Rattle.grammar.specs.declared.terminal.Outer.TheVariants as o
+use Rattle.grammar.specs.Terminals.{toks}
+use Rattle.grammar.specs.BlockSpelling.{put_theory_item}
+use Rattle.grammar.specs.BlockFine.{FineTheoryItem}
 use Rattle.block_reader.specs.BlockParts.{Anything}
 use Rattle.fo_reader.proofs.InTheory.{in_sentence, comes_there}
 use Rattle.fo_reader.proofs.theory.theory_item.Goals as goal

@@ -1,7 +1,7 @@
 use Rattle.std.proofs.Common.{arith}
 use Rattle.std.proofs.lemmas.Result.{err_from_is_err_and}
 use Rattle.std.proofs.lemmas.List.{map_push}
-use Rattle.fo_syntax.specs.Terminals.{toks}
+use Rattle.grammar.specs.Terminals.{toks}
 use Rattle.block_reader.proofs.Formats.{each_step, push_fine}
 use Rattle.fo_reader.proofs.TheoryFormats.{theory_item_format}
 use Rattle.fo_reader.proofs.InTheory.{in_theory_items}

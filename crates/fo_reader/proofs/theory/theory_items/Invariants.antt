@@ -1,8 +1,8 @@
 use Rattle.std.proofs.Common.{◌≡◌, ◌≤◌, length, map}
-use Rattle.fo_syntax.specs.Terminals.{toks}
-use Rattle.fo_syntax.specs.BlockSpelling.{put_each, put_theory_item}
-use Rattle.fo_syntax.specs.BlockFine.{FineEach, FineTheoryItem}
-use Rattle.fo_syntax.specs.BlockView.{theory_item_view}
+use Rattle.grammar.specs.Terminals.{toks}
+use Rattle.grammar.specs.BlockSpelling.{put_each, put_theory_item}
+use Rattle.grammar.specs.BlockFine.{FineEach, FineTheoryItem}
+use Rattle.grammar.specs.BlockView.{theory_item_view}
 use Rattle.fo_reader.proofs.theory.theory_items.Given as goal
 
 abbrev pub invariant-items : goal.invariant-items

@@ -1,6 +1,6 @@
 use Rattle.std.proofs.Common.{◌≡◌, map, drop, length}
-use Rattle.reading_stages.specs.Numbering as numbers
-use Rattle.reading_stages.specs.NamedViews.{formula_view}
+use Rattle.stage_definitions.specs.Numbering as numbers
+use Rattle.stage_definitions.specs.NamedViews.{formula_view}
 use Rattle.formula_names.proofs.arrows.implied_by.Given as goal
 
 abbrev pub invariant-loop-right : goal.invariant-loop-right

@@ -1,6 +1,6 @@
 use Rattle.std.proofs.Common.{◌≡◌, length, arith}
 use Rattle.std.proofs.lemmas.Grind.{common_steps}
-use Rattle.reading_stages.proofs.Groups.{implies_next, implies_all}
+use Rattle.stage_definitions.proofs.Groups.{implies_next, implies_all}
 use Rattle.formula_names.proofs.arrows.implies.Goals as goal
 
 pub loop-left-preserved : goal.loop-left-preserved

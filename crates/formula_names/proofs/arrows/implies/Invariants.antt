@@ -1,6 +1,6 @@
 use Rattle.std.proofs.Common.{◌≡◌, [], ◌∷◌, ◌++◌, map, vec_len}
-use Rattle.reading_stages.specs.Numbering as numbers
-use Rattle.reading_stages.specs.NamedViews.{formula_view}
+use Rattle.stage_definitions.specs.Numbering as numbers
+use Rattle.stage_definitions.specs.NamedViews.{formula_view}
 use Rattle.formula_names.proofs.arrows.implies.Given as goal
 
 abbrev pub invariant-loop-left : goal.invariant-loop-left

@@ -1,8 +1,8 @@
 use Rattle.std.proofs.Common.{◌≡◌, ◌++◌, take, fold, map}
-use Rattle.reading_stages.specs.FileView.{tail_name}
-use Rattle.reading_stages.specs.NamesStage.{name_noted}
-use Rattle.reading_stages.specs.Numbering.{type_number_of}
-use Rattle.reading_stages.specs.Uses as use_of
+use Rattle.stage_definitions.specs.FileView.{tail_name}
+use Rattle.stage_definitions.specs.NamesStage.{name_noted}
+use Rattle.stage_definitions.specs.Numbering.{type_number_of}
+use Rattle.stage_definitions.specs.Uses as use_of
 use Rattle.formula_names.specs.Meanings.{names_in}
 use Rattle.formula_names.proofs.positions.more_positions.Given as goal
 

@@ -1,6 +1,6 @@
 use Rattle.std.proofs.Common.{◌<◌, ◌∙◌, arith, length, sym}
 use Rattle.std.proofs.lemmas.Grind.{common_steps}
-use Rattle.fo_syntax.specs.declared.raw.RawProduct.{out-RawProduct}
+use Rattle.grammar.specs.declared.raw.RawProduct.{out-RawProduct}
 use Rattle.formula_names.proofs.Scaled.{factors_raw}
 use Rattle.formula_names.proofs.standings.factors_stand.Goals as goal
 

@@ -1,5 +1,5 @@
 use Rattle.std.proofs.Common.{◌≡◌, ◌∙◌, ◌==◌, true, false, length, sym}
-use Rattle.fo_syntax.specs.declared.raw.RawTermTree.{out-RawTermTree}
+use Rattle.grammar.specs.declared.raw.RawTermTree.{out-RawTermTree}
 use Rattle.formula_names.proofs.LoneTerms.{lone_raw}
 use Rattle.formula_names.proofs.standings.is_lone.Goals as goal
 

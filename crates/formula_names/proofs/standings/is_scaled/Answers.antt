@@ -1,6 +1,6 @@
 use Rattle.std.proofs.Common.{◌≡◌, ◌∙◌, map, refl, sym}
-use Rattle.fo_syntax.specs.View.{product_tail_view}
-use Rattle.fo_syntax.specs.declared.raw.RawProduct.{out-RawProduct}
+use Rattle.grammar.specs.View.{product_tail_view}
+use Rattle.grammar.specs.declared.raw.RawProduct.{out-RawProduct}
 use Rattle.formula_names.proofs.Scaled.{others_of, scaled_raw}
 use Rattle.formula_names.proofs.standings.is_scaled.Goals as goal
 

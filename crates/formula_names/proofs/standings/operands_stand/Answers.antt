@@ -1,6 +1,6 @@
 use Rattle.std.proofs.Common.{◌<◌, arith, length}
 use Rattle.std.proofs.lemmas.Grind.{common_steps}
-use Rattle.fo_syntax.specs.declared.raw.RawTermTree.{out-RawTermTree}
+use Rattle.grammar.specs.declared.raw.RawTermTree.{out-RawTermTree}
 use Rattle.formula_names.proofs.Scaled.{operands_raw}
 use Rattle.formula_names.proofs.standings.operands_stand.Goals as goal
 

@@ -1,6 +1,6 @@
 use Rattle.std.proofs.Common.{◌≡◌, ◌≤◌, filter, length, map, not, take}
-use Rattle.fo_syntax.specs.View.{product_tail_view}
-use Rattle.reading_stages.specs.Standings.{is_signed_integer}
+use Rattle.grammar.specs.View.{product_tail_view}
+use Rattle.stage_definitions.specs.Standings.{is_signed_integer}
 use Rattle.formula_names.proofs.standings.others.Given as goal
 
 abbrev pub invariant-loop-tail : goal.invariant-loop-tail

@@ -1,5 +1,5 @@
 use Rattle.std.proofs.Common.{◌∙◌, false, is_some, ◌≡◌, rules}
-use Rattle.reading_stages.specs.Names.{meaning_in}
+use Rattle.stage_definitions.specs.Names.{meaning_in}
 use Rattle.formula_names.specs.Meanings.{names_in}
 use Rattle.std.specs.Str.{bytes_eq}
 use Rattle.indexmap.proofs.CallerLemmas.{insert_entry-new}

@@ -1,7 +1,7 @@
 use Rattle.std.proofs.Common.{◌≡◌, arith, rules, map}
 use Rattle.std.proofs.lemmas.Grind.{common_steps}
-use Rattle.fo_syntax.specs.declared.raw.RawTerms.{out-RawTerms, the_lemmas}
-use Rattle.fo_syntax.specs.View.{terms_of, terms_view, term_view, terms_tail_view}
+use Rattle.grammar.specs.declared.raw.RawTerms.{out-RawTerms, the_lemmas}
+use Rattle.grammar.specs.View.{terms_of, terms_view, term_view, terms_tail_view}
 use Rattle.formula_names.proofs.Chains.{terms_counted}
 use Rattle.formula_names.proofs.words.terms_count.Goals as goal
 

@@ -1,7 +1,7 @@
 use Rattle.std.proofs.Common.{◌≡◌, length}
-use Rattle.fo_syntax.specs.Trees.{value}
-use Rattle.fo_syntax.specs.Fine.{FineApp, FineFactor}
-use Rattle.fo_syntax.specs.View.{factor_view, app_view}
+use Rattle.grammar.specs.Trees.{value}
+use Rattle.grammar.specs.Fine.{FineApp, FineFactor}
+use Rattle.grammar.specs.View.{factor_view, app_view}
 use Rattle.formula_reader.specs.Results.{wrap_factor}
 use Rattle.formula_reader.proofs.formulas.bracketed.Given as goal
 

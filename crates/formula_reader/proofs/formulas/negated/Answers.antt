@@ -1,5 +1,5 @@
 use Rattle.std.proofs.Common.{◌∙◌, List, ℕ, ap, sym}
-use Rattle.fo_syntax.specs.View.{unary_view}
+use Rattle.grammar.specs.View.{unary_view}
 use Rattle.formula_reader.specs.Results.{nots}
 use Rattle.formula_reader.proofs.InOperands.{negated_push}
 use Rattle.formula_reader.proofs.formulas.negated.Goals as goal

@@ -1,5 +1,5 @@
 use Rattle.std.proofs.Common.{◌≡◌, length}
-use Rattle.fo_syntax.specs.View.{unary_view}
+use Rattle.grammar.specs.View.{unary_view}
 use Rattle.formula_reader.specs.Results.{nots}
 use Rattle.formula_reader.proofs.formulas.negated.Given as goal
 

@@ -1,5 +1,5 @@
-use Rattle.fo_syntax.specs.Terminals.{toks}
-use Rattle.fo_syntax.specs.View.{term_view, app_view}
+use Rattle.grammar.specs.Terminals.{toks}
+use Rattle.grammar.specs.View.{term_view, app_view}
 use Rattle.formula_reader.proofs.InOperands.{app_is, term_stuck}
 use Rattle.formula_reader.proofs.formulas.settle.Goals as goal
 

@@ -1,6 +1,6 @@
 use Rattle.std.proofs.Common.{◌≡◌, length}
-use Rattle.fo_syntax.specs.Trees.{atom}
-use Rattle.fo_syntax.specs.View.{prim_view, app_view}
+use Rattle.grammar.specs.Trees.{atom}
+use Rattle.grammar.specs.View.{prim_view, app_view}
 use Rattle.formula_reader.specs.Results.{wrap_prim}
 use Rattle.formula_reader.proofs.formulas.wrapped.Given as goal
 

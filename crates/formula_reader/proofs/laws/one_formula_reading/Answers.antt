@@ -1,6 +1,6 @@
 use Rattle.std.proofs.Common.{[]}
-use Rattle.fo_syntax.specs.Spelling.{put_formula}
-use Rattle.fo_syntax.specs.Fine.{FineFormula}
+use Rattle.grammar.specs.Spelling.{put_formula}
+use Rattle.grammar.specs.Fine.{FineFormula}
 use Rattle.token_reader.proofs.Ends.{all_stop_formula}
 use Rattle.token_reader.proofs.Only.{only_formula}
 use Rattle.formula_reader.proofs.OneReading.{one_reading}

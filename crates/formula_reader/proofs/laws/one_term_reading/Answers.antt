@@ -1,6 +1,6 @@
 use Rattle.std.proofs.Common.{[]}
-use Rattle.fo_syntax.specs.Spelling.{put_term}
-use Rattle.fo_syntax.specs.Fine.{FineTerm}
+use Rattle.grammar.specs.Spelling.{put_term}
+use Rattle.grammar.specs.Fine.{FineTerm}
 use Rattle.token_reader.proofs.Only.{only_term}
 use Rattle.formula_reader.proofs.OneReading.{one_reading}
 use Rattle.formula_reader.proofs.laws.one_term_reading.Goals as goal

@@ -1,5 +1,5 @@
 use Rattle.std.proofs.Common.{◌∙◌, List, ap, sym, refl, arith}
-use Rattle.fo_syntax.specs.Terminals.{Tok, toks}
+use Rattle.grammar.specs.Terminals.{Tok, toks}
 use Rattle.formula_reader.specs.Results.{put_minuses}
 use Rattle.formula_reader.proofs.InFactors.{minuses_push}
 use Rattle.formula_reader.proofs.terms.minuses.Goals as goal

@@ -1,5 +1,5 @@
 use Rattle.std.proofs.Common.{◌≡◌, ◌≤◌, length}
-use Rattle.fo_syntax.specs.Terminals.{toks}
+use Rattle.grammar.specs.Terminals.{toks}
 use Rattle.formula_reader.specs.Results.{put_minuses}
 use Rattle.formula_reader.proofs.terms.minuses.Given as goal
 

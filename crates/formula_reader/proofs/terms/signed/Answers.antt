@@ -1,5 +1,5 @@
 use Rattle.std.proofs.Common.{◌∙◌, List, ℕ, ap, sym}
-use Rattle.fo_syntax.specs.View.{factor_view}
+use Rattle.grammar.specs.View.{factor_view}
 use Rattle.formula_reader.specs.Results.{negatives}
 use Rattle.formula_reader.proofs.InFactors.{negatives_push}
 use Rattle.formula_reader.proofs.terms.signed.Goals as goal

@@ -1,5 +1,5 @@
 use Rattle.std.proofs.Common.{◌≡◌, length}
-use Rattle.fo_syntax.specs.View.{factor_view}
+use Rattle.grammar.specs.View.{factor_view}
 use Rattle.formula_reader.specs.Results.{negatives}
 use Rattle.formula_reader.proofs.terms.signed.Given as goal
 

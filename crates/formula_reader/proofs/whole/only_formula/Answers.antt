@@ -1,8 +1,8 @@
 use Rattle.std.proofs.Common.{◌∙◌, List, refl, ap}
 use Rattle.std.proofs.lemmas.Result.{err_from_is_err_and}
-use Rattle.fo_syntax.specs.Terminals.{Tok, toks}
-use Rattle.fo_syntax.specs.Spelling.{put_formula}
-use Rattle.fo_syntax.specs.View.{formula_view}
+use Rattle.grammar.specs.Terminals.{Tok, toks}
+use Rattle.grammar.specs.Spelling.{put_formula}
+use Rattle.grammar.specs.View.{formula_view}
 use Rattle.formula_reader.proofs.Unread.{formula_fails, formula_over}
 use Rattle.formula_reader.proofs.whole.only_formula.Goals as goal
 

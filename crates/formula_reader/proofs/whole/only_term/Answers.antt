@@ -1,8 +1,8 @@
 use Rattle.std.proofs.Common.{◌∙◌, List, refl, ap}
 use Rattle.std.proofs.lemmas.Result.{err_from_is_err_and}
-use Rattle.fo_syntax.specs.Terminals.{Tok, toks}
-use Rattle.fo_syntax.specs.Spelling.{put_term}
-use Rattle.fo_syntax.specs.View.{term_view}
+use Rattle.grammar.specs.Terminals.{Tok, toks}
+use Rattle.grammar.specs.Spelling.{put_term}
+use Rattle.grammar.specs.View.{term_view}
 use Rattle.formula_reader.proofs.Unread.{term_fails, term_over}
 use Rattle.formula_reader.proofs.whole.only_term.Goals as goal
 

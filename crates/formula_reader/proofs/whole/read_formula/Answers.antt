@@ -1,6 +1,6 @@
-use Rattle.fo_syntax.specs.Spelling.{put_formula}
-use Rattle.fo_syntax.specs.Fine.{FineFormula}
-use Rattle.fo_syntax.specs.View.{formula_view}
+use Rattle.grammar.specs.Spelling.{put_formula}
+use Rattle.grammar.specs.Fine.{FineFormula}
+use Rattle.grammar.specs.View.{formula_view}
 use Rattle.formula_reader.proofs.Unread.{answered, refused_early}
 use Rattle.formula_reader.proofs.whole.read_formula.Goals as goal
 

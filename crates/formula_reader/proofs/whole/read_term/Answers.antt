@@ -1,6 +1,6 @@
-use Rattle.fo_syntax.specs.Spelling.{put_term}
-use Rattle.fo_syntax.specs.Fine.{FineTerm}
-use Rattle.fo_syntax.specs.View.{term_view}
+use Rattle.grammar.specs.Spelling.{put_term}
+use Rattle.grammar.specs.Fine.{FineTerm}
+use Rattle.grammar.specs.View.{term_view}
 use Rattle.formula_reader.proofs.Unread.{answered, refused_early}
 use Rattle.formula_reader.proofs.whole.read_term.Goals as goal
 

@@ -1,6 +1,6 @@
 use Rattle.std.proofs.Common.{◌≤◌, sym, subst}
 use Rattle.kb_logic.specs.Bases.{Base}
-use Rattle.reading_stages.specs.FileBases.{base_of_file}
+use Rattle.stage_definitions.specs.FileBases.{base_of_file}
 use Rattle.type_derivation.specs.TypedViews.{typed_view}
 use Rattle.open_sizes.specs.OpenWeights.{base_weight}
 use Rattle.ground_core.specs.Meaning.{HasTermsInRange}

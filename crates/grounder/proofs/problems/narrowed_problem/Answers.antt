@@ -1,7 +1,7 @@
 use Rattle.std.proofs.Common.{◌≡◌, [], map, IfOk, sym, ap, subst, ◌∙◌}
 use Rattle.std.proofs.lemmas.Result.{IfOk-weaker}
 use Rattle.kb_logic.specs.Bases.{Base}
-use Rattle.reading_stages.specs.FileBases.{base_of_file, named_term}
+use Rattle.stage_definitions.specs.FileBases.{base_of_file, named_term}
 use Rattle.type_derivation.specs.TypedViews.{named_term_view, typed_view}
 use Rattle.ground_core.specs.Growth.{with_clause}
 use Rattle.def_ground.specs.AskedTerms.{with_all_asked}

@@ -4,7 +4,7 @@ use Rattle.kb_logic.specs.Views.{formula_view, definition_view}
 use Rattle.term_values.specs.GroundBases.{GroundBase}
 use Rattle.term_values.specs.KnownBases.{IsGroundBase, base_of_data}
 use Rattle.term_values.proofs.KnownLaws.{ground-base}
-use Rattle.reading_stages.specs.FileBases.{named_term}
+use Rattle.stage_definitions.specs.FileBases.{named_term}
 use Rattle.type_derivation.specs.TypedViews.{named_term_view}
 use Rattle.term_walk.specs.Askable.{IsAskable}
 use Rattle.ground_walk.specs.Groundable.{IsGroundable, KnowsAtoms}

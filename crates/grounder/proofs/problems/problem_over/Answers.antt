@@ -4,7 +4,7 @@ use Rattle.std.proofs.lemmas.Result.{IfOk-weaker}
 use Rattle.kb_logic.specs.Bases.{Base}
 use Rattle.kb_logic.specs.Trees.{TheoryTree}
 use Rattle.kb_logic.specs.Views.{theory_view}
-use Rattle.reading_stages.specs.FileBases.{base_of_file, named_term}
+use Rattle.stage_definitions.specs.FileBases.{base_of_file, named_term}
 use Rattle.type_derivation.specs.TypedViews.{named_term_view, typed_view}
 use Rattle.def_ground.specs.Groundings.{ground_base, theory_problem}
 use Rattle.ground_walk.specs.Groundable.{IsGroundable}

@@ -1,6 +1,6 @@
 use Rattle.std.proofs.Common.{◌≡◌, map, drop}
 use Rattle.std.specs.List.{AllByRecursion}
-use Rattle.reading_stages.specs.FileBases.{named_term}
+use Rattle.stage_definitions.specs.FileBases.{named_term}
 use Rattle.type_derivation.specs.TypedViews.{named_term_view}
 use Rattle.def_ground.specs.AskedTerms.{with_all_asked}
 use Rattle.term_walk.specs.Askable.{IsAskable}

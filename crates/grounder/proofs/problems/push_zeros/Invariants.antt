@@ -1,5 +1,5 @@
 use Rattle.std.proofs.Common.{◌≡◌, map, drop}
-use Rattle.reading_stages.specs.FileBases.{named_term}
+use Rattle.stage_definitions.specs.FileBases.{named_term}
 use Rattle.type_derivation.specs.TypedViews.{named_term_view}
 use Rattle.term_values.specs.GroundBases.{GroundBase}
 use Rattle.def_ground.specs.AskedTerms.{with_all_asked}

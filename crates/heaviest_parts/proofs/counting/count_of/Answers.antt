@@ -1,7 +1,7 @@
 use Rattle.std.proofs.Common.{◌∙◌, ap}
 use Rattle.std.proofs.lemmas.Result.{IfOk-weaker}
-use Rattle.reading_stages.specs.SizesStage.{capped}
-use Rattle.kb_sizes.specs.Counted.{count_in}
+use Rattle.stage_definitions.specs.SizesStage.{capped}
+use Rattle.size_stage.specs.Counted.{count_in}
 use Rattle.heaviest_parts.proofs.Counts.{counted_listed}
 use Rattle.heaviest_parts.proofs.counting.count_of.Goals as goal
 

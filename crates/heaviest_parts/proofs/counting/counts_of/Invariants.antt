@@ -1,5 +1,5 @@
 use Rattle.std.proofs.Common.{◌≡◌, ◌++◌, drop, map}
-use Rattle.kb_sizes.specs.Counted.{count_in}
+use Rattle.size_stage.specs.Counted.{count_in}
 use Rattle.heaviest_parts.proofs.counting.counts_of.Given as goal
 
 abbrev pub invariant-loop-data : goal.invariant-loop-data

@@ -1,12 +1,12 @@
 use Rattle.std.proofs.Common.{map, []}
 use Rattle.kb_logic.specs.Bounds.{TermIsBounded}
-use Rattle.fo_syntax.specs.BlockView.{structure_view}
-use Rattle.reading_stages.specs.FileBases.{base_of_file, theory_at}
-use Rattle.reading_stages.specs.TypedFiles.{TypedTermTree}
+use Rattle.grammar.specs.BlockView.{structure_view}
+use Rattle.stage_definitions.specs.FileBases.{base_of_file, theory_at}
+use Rattle.stage_definitions.specs.TypedFiles.{TypedTermTree}
 use Rattle.type_derivation.specs.TypedViews.{named_term_view, typed_view}
-use Rattle.kb_sizes.specs.Measures.{measure_view}
+use Rattle.size_stage.specs.Measures.{measure_view}
 use Rattle.def_ground.specs.Groundings.{IsGroundTheory}
-use Rattle.file_bases.specs.FileLaws.{IsBoundedBase}
+use Rattle.base_reader.specs.Groundable.{IsBoundedBase}
 use Rattle.heaviest_parts.proofs.Fits.{asked_of}
 use Rattle.heaviest_parts.proofs.explaining.explained_over.Goals as goal
 

@@ -1,7 +1,7 @@
 use Rattle.std.proofs.Common.{map, subst, sym}
 use Rattle.std.specs.List.{AllByRecursion}
-use Rattle.data_entries.specs.SaidViews.{said_view}
-use Rattle.kb_sizes.specs.Counted.{IsCountable}
+use Rattle.structure_entries.specs.SaidViews.{said_view}
+use Rattle.size_stage.specs.Counted.{IsCountable}
 use Rattle.structure_reader.proofs.NextDomain.{all_countable}
 use Rattle.heaviest_parts.proofs.explaining.too_large.Goals as goal
 

@@ -4,7 +4,7 @@ use Rattle.kb_logic.specs.Trees.{DefinitionTree, FormulaTree, TermTree}
 use Rattle.kb_logic.specs.Views.{definition_view, formula_view, theory_view}
 use Rattle.certain_truth.specs.KnownArithmetic.{CertaintyFits, ValueFits}
 use Rattle.open_sizes.specs.Fits.{BodyFits}
-use Rattle.reading_stages.specs.TypedFiles.{TypedTermTree}
+use Rattle.stage_definitions.specs.TypedFiles.{TypedTermTree}
 use Rattle.type_derivation.specs.TypedViews.{named_term_view}
 use Rattle.heaviest_parts.proofs.Fits.{by_number, mapped}
 use Rattle.heaviest_parts.proofs.open.open_in.Goals as goal

@@ -1,5 +1,5 @@
 use Rattle.std.proofs.Common.{ℕ, ◌+◌, Err, sym, subst}
-use Rattle.fo_syntax.specs.FileReads.{most_bytes}
+use Rattle.grammar.specs.FileReads.{most_bytes}
 use Rattle.kb_io.specs.declared.read_write.ReadError.{ReadError}
 use Rattle.kb_text.specs.declared.fault.K.TheVariants.{TooLong}
 use Rattle.consultation.specs.Streams.{IfObservable}

@@ -1,5 +1,5 @@
 use Rattle.std.proofs.Common.{arith, zero}
-use Rattle.reading_stages.proofs.Climbs.{ends, is_back, is_past, goes_on}
+use Rattle.stage_definitions.proofs.Climbs.{ends, is_back, is_past, goes_on}
 use Rattle.kb_names.proofs.cycles.comes_back.Goals as goal
 
 pub returns-in_default : goal.returns-in_default

@@ -1,5 +1,5 @@
 use Rattle.std.proofs.Common.{◌≡◌, ◌+◌, ℕ}
-use Rattle.reading_stages.specs.NamesStage as stage
+use Rattle.stage_definitions.specs.NamesStage as stage
 use Rattle.kb_names.proofs.cycles.comes_back.Given as goal
 
 abbrev pub invariant-loop-step : goal.invariant-loop-step

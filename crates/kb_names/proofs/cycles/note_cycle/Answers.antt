@@ -2,7 +2,7 @@ use Rattle.std.proofs.Common.{◌≡◌, ◌∙◌, ℕ, Bool, true, false, Opti
 use Rattle.kb_text.specs.declared.fault.KbFault.{KbFault}
 use Rattle.kb_text.specs.declared.fault.K.{K}
 use Rattle.kb_text.specs.declared.fault.K.TheVariants as k
-use Rattle.reading_stages.specs.Earliest.{refusal, comes_first, noted_if}
+use Rattle.stage_definitions.specs.Earliest.{refusal, comes_first, noted_if}
 use Rattle.kb_names.proofs.cycles.note_cycle.Goals as goal
 
 -- a refusal that would not be the first one leaves the earliest as it is, whether it is one or not

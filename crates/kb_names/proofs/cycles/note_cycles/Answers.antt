@@ -1,5 +1,5 @@
 use Rattle.std.proofs.Common.{refl}
-use Rattle.reading_stages.proofs.Climbs.{climb_on}
+use Rattle.stage_definitions.proofs.Climbs.{climb_on}
 use Rattle.kb_names.proofs.cycles.note_cycles.Goals as goal
 
 pub loop-ty-preserved : goal.loop-ty-preserved

@@ -1,8 +1,8 @@
 use Rattle.std.proofs.Common.{◌≡◌, List, map, fold, drop}
-use Rattle.reading_stages.specs.Names.{Names, place_of_name}
-use Rattle.reading_stages.specs.NamesStage.{name_noted}
-use Rattle.fo_syntax.specs.Trees.{Name}
-use Rattle.reading_stages.specs.Uses.{climbing_uses}
+use Rattle.stage_definitions.specs.Names.{Names, place_of_name}
+use Rattle.stage_definitions.specs.NamesStage.{name_noted}
+use Rattle.grammar.specs.Trees.{Name}
+use Rattle.stage_definitions.specs.Uses.{climbing_uses}
 use Rattle.kb_names.proofs.cycles.note_cycles.Given as goal
 
 abbrev pub invariant-loop-ty : goal.invariant-loop-ty

@@ -1,5 +1,5 @@
 use Rattle.formula_names.specs.Meanings.{names_in}
-use Rattle.reading_stages.specs.NamesStage.{name_noted}
+use Rattle.stage_definitions.specs.NamesStage.{name_noted}
 use Rattle.formula_names.proofs.Declared.{next_made, next_made_noted}
 use Rattle.kb_names.proofs.declarations.declare_more.Goals as goal
 

@@ -1,8 +1,8 @@
 use Rattle.std.proofs.Common.{◌≡◌, ◌+◌, drop, fold, map}
-use Rattle.reading_stages.specs.FileView.{element_name}
-use Rattle.reading_stages.specs.Names.{Names, made_names, with_names}
-use Rattle.reading_stages.specs.NamesStage.{name_noted}
-use Rattle.reading_stages.specs.Uses.{declared_uses}
+use Rattle.stage_definitions.specs.FileView.{element_name}
+use Rattle.stage_definitions.specs.Names.{Names, made_names, with_names}
+use Rattle.stage_definitions.specs.NamesStage.{name_noted}
+use Rattle.stage_definitions.specs.Uses.{declared_uses}
 use Rattle.formula_names.specs.Meanings.{names_in}
 use Rattle.kb_names.proofs.declarations.declare_more.Given as goal
 

@@ -1,7 +1,7 @@
 use Rattle.std.proofs.Common.{map}
-use Rattle.reading_stages.specs.FileView.{element_name}
-use Rattle.reading_stages.specs.NamesStage.{name_noted}
-use Rattle.fo_syntax.specs.View.{name_view}
+use Rattle.stage_definitions.specs.FileView.{element_name}
+use Rattle.stage_definitions.specs.NamesStage.{name_noted}
+use Rattle.grammar.specs.View.{name_view}
 use Rattle.formula_names.specs.Meanings.{names_in}
 use Rattle.formula_names.proofs.ChainEnds.{on_ok_map}
 use Rattle.formula_names.proofs.Declared.{constructed_noted}

@@ -1,6 +1,6 @@
 use Rattle.std.proofs.Common.{arith}
 use Rattle.formula_names.specs.Meanings.{names_in}
-use Rattle.reading_stages.specs.NamesStage.{name_noted}
+use Rattle.stage_definitions.specs.NamesStage.{name_noted}
 use Rattle.formula_names.proofs.Declared.{next_declared, next_declared_noted}
 use Rattle.kb_names.proofs.declarations.declared_table.Goals as goal
 

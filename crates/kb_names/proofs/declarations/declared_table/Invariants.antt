@@ -1,8 +1,8 @@
 use Rattle.std.proofs.Common.{◌≡◌, ◌≤◌, drop, fold, map}
-use Rattle.reading_stages.specs.FileView.{declaration_in}
-use Rattle.reading_stages.specs.Names.{Names, declared_names, names_of, number_types, with_names}
-use Rattle.reading_stages.specs.NamesStage.{name_noted}
-use Rattle.reading_stages.specs.Uses.{declared_uses}
+use Rattle.stage_definitions.specs.FileView.{declaration_in}
+use Rattle.stage_definitions.specs.Names.{Names, declared_names, names_of, number_types, with_names}
+use Rattle.stage_definitions.specs.NamesStage.{name_noted}
+use Rattle.stage_definitions.specs.Uses.{declared_uses}
 use Rattle.formula_names.specs.Meanings.{names_in}
 use Rattle.kb_names.proofs.declarations.declared_table.Given as goal
 

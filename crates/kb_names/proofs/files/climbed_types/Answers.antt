@@ -1,10 +1,10 @@
 use Rattle.std.proofs.Common.{◌≡◌, ◌∙◌, ℕ, List, Option, ap, fold, map, sym}
-use Rattle.reading_stages.specs.FileView.{declaration_in}
-use Rattle.reading_stages.specs.Names.{place_of_name}
-use Rattle.reading_stages.specs.NamesStage.{name_noted}
-use Rattle.reading_stages.specs.Uses.{climbing_uses, type_names}
+use Rattle.stage_definitions.specs.FileView.{declaration_in}
+use Rattle.stage_definitions.specs.Names.{place_of_name}
+use Rattle.stage_definitions.specs.NamesStage.{name_noted}
+use Rattle.stage_definitions.specs.Uses.{climbing_uses, type_names}
 use Rattle.formula_names.specs.Meanings.{names_in}
-use Rattle.reading_stages.proofs.Climbs.{type_places-is}
+use Rattle.stage_definitions.proofs.Climbs.{type_places-is}
 use Rattle.kb_names.proofs.files.climbed_types.Goals as goal
 
 pub returns-clause-noted : goal.returns-clause-noted

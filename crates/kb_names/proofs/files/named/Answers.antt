@@ -1,11 +1,11 @@
 use Rattle.std.proofs.Common.{◌≡◌, ◌∙◌, List, ap, map}
 use Rattle.std.specs.List.{flat_map}
-use Rattle.fo_syntax.specs.declared.raw_blocks.RawVocabulary.{RawVocabulary}
-use Rattle.reading_stages.specs.FileView.{declaration_in, term_in, theory_in, vocabulary_in}
-use Rattle.reading_stages.specs.Names.{declared_names, names_of, number_types}
-use Rattle.reading_stages.specs.NamesStage.{declarations_of, name_noted}
-use Rattle.reading_stages.specs.Uses.{climbing_uses, declared_uses, parents_in, type_names, uses_in_block}
-use Rattle.reading_stages.specs.Uses.{uses_in_declarations, uses_in_theory}
+use Rattle.grammar.specs.declared.raw_blocks.RawVocabulary.{RawVocabulary}
+use Rattle.stage_definitions.specs.FileView.{declaration_in, term_in, theory_in, vocabulary_in}
+use Rattle.stage_definitions.specs.Names.{declared_names, names_of, number_types}
+use Rattle.stage_definitions.specs.NamesStage.{declarations_of, name_noted}
+use Rattle.stage_definitions.specs.Uses.{climbing_uses, declared_uses, parents_in, type_names, uses_in_block}
+use Rattle.stage_definitions.specs.Uses.{uses_in_declarations, uses_in_theory}
 use Rattle.formula_names.specs.Meanings.{names_in}
 use Rattle.formula_names.proofs.PerDeclaration.{file_noted}
 use Rattle.kb_names.proofs.files.named.Goals as goal

@@ -1,12 +1,12 @@
 use Rattle.std.proofs.Common.{◌≡◌, ◌∙◌, Option, None, fold, map, sym}
 use Rattle.kb_text.specs.declared.fault.KbFault.{KbFault}
-use Rattle.reading_stages.specs.Files.{File}
-use Rattle.reading_stages.specs.FileView.{file_in, vocabulary_in}
-use Rattle.reading_stages.specs.Names.{names_of}
-use Rattle.reading_stages.specs.NamesStage.{declarations_of, name_noted, uses_of_file}
-use Rattle.reading_stages.specs.Numbering.{IsNamed, NamedFile, named_file, vocabulary_name}
-use Rattle.reading_stages.proofs.NamedTypes.{named_without_cycles}
-use Rattle.reading_stages.proofs.Rows.{earliest_refused, nothing_refused}
+use Rattle.stage_definitions.specs.Files.{File}
+use Rattle.stage_definitions.specs.FileView.{file_in, vocabulary_in}
+use Rattle.stage_definitions.specs.Names.{names_of}
+use Rattle.stage_definitions.specs.NamesStage.{declarations_of, name_noted, uses_of_file}
+use Rattle.stage_definitions.specs.Numbering.{IsNamed, NamedFile, named_file, vocabulary_name}
+use Rattle.stage_definitions.proofs.NamedTypes.{named_without_cycles}
+use Rattle.stage_definitions.proofs.Rows.{earliest_refused, nothing_refused}
 use Rattle.kb_names.specs.NumberedViews.{numbered_view}
 use Rattle.kb_names.proofs.files.resolve.Goals as goal
 

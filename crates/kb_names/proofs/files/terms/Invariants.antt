@@ -1,10 +1,10 @@
 use Rattle.std.proofs.Common.{◌≡◌, fold, map, take}
 use Rattle.std.specs.List.{flat_map}
-use Rattle.reading_stages.specs.FileView.{term_in}
-use Rattle.reading_stages.specs.NamesStage.{name_noted}
-use Rattle.reading_stages.specs.Numbering.{named_block}
-use Rattle.reading_stages.specs.Uses.{uses_in_block}
-use Rattle.reading_stages.specs.FileViews.{block_view}
+use Rattle.stage_definitions.specs.FileView.{term_in}
+use Rattle.stage_definitions.specs.NamesStage.{name_noted}
+use Rattle.stage_definitions.specs.Numbering.{named_block}
+use Rattle.stage_definitions.specs.Uses.{uses_in_block}
+use Rattle.stage_definitions.specs.FileViews.{block_view}
 use Rattle.formula_names.specs.Meanings.{names_in}
 use Rattle.kb_names.proofs.files.terms.Given as goal
 

@@ -1,4 +1,4 @@
-use Rattle.reading_stages.specs.Uses.{parents_in}
+use Rattle.stage_definitions.specs.Uses.{parents_in}
 use Rattle.formula_names.specs.Meanings.{names_in}
 use Rattle.formula_names.proofs.PerDeclaration.{parents_in-next, next_added}
 use Rattle.kb_names.proofs.places.parents_in.Goals as goal

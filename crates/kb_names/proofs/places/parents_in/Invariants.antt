@@ -1,6 +1,6 @@
 use Rattle.std.proofs.Common.{◌≡◌, ◌++◌, drop, map}
-use Rattle.reading_stages.specs.FileView.{declaration_in}
-use Rattle.reading_stages.specs.Uses.{parents_in}
+use Rattle.stage_definitions.specs.FileView.{declaration_in}
+use Rattle.stage_definitions.specs.Uses.{parents_in}
 use Rattle.formula_names.specs.Meanings.{names_in}
 use Rattle.kb_names.proofs.places.parents_in.Given as goal
 

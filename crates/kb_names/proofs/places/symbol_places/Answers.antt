@@ -1,4 +1,4 @@
-use Rattle.reading_stages.specs.Numbering.{symbol_places}
+use Rattle.stage_definitions.specs.Numbering.{symbol_places}
 use Rattle.formula_names.proofs.PerDeclaration.{symbol_places-next, next_added}
 use Rattle.kb_names.proofs.places.symbol_places.Goals as goal
 

@@ -1,4 +1,4 @@
-use Rattle.reading_stages.specs.Numbering.{type_places}
+use Rattle.stage_definitions.specs.Numbering.{type_places}
 use Rattle.formula_names.proofs.PerDeclaration.{type_places-next, next_added}
 use Rattle.kb_names.proofs.places.type_places.Goals as goal
 

@@ -1,6 +1,6 @@
 use Rattle.std.proofs.Common.{◌≡◌, ◌++◌, drop, map}
-use Rattle.reading_stages.specs.FileView.{declaration_in}
-use Rattle.reading_stages.specs.Numbering.{type_places}
+use Rattle.stage_definitions.specs.FileView.{declaration_in}
+use Rattle.stage_definitions.specs.Numbering.{type_places}
 use Rattle.kb_names.proofs.places.type_places.Given as goal
 
 abbrev pub invariant-loop-raw : goal.invariant-loop-raw

@@ -1,11 +1,11 @@
 use Rattle.std.proofs.Common.{◌≡◌, take, fold, map}
 use Rattle.std.specs.List.{flat_map}
-use Rattle.reading_stages.specs.FileView.{part_in}
-use Rattle.reading_stages.specs.NamesStage.{name_noted}
-use Rattle.reading_stages.specs.Numbering.{definitions_in, sentences_in}
-use Rattle.reading_stages.specs.Uses.{uses_in_part}
+use Rattle.stage_definitions.specs.FileView.{part_in}
+use Rattle.stage_definitions.specs.NamesStage.{name_noted}
+use Rattle.stage_definitions.specs.Numbering.{definitions_in, sentences_in}
+use Rattle.stage_definitions.specs.Uses.{uses_in_part}
 use Rattle.formula_names.specs.Meanings.{names_in}
-use Rattle.reading_stages.specs.NamedViews.{definition_view, formula_view}
+use Rattle.stage_definitions.specs.NamedViews.{definition_view, formula_view}
 use Rattle.kb_names.proofs.theories.theory.Given as goal
 
 abbrev pub invariant-loop-raw : goal.invariant-loop-raw

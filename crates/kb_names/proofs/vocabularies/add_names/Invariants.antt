@@ -1,6 +1,6 @@
 use Rattle.std.proofs.Common.{◌≡◌, ◌++◌, take, map}
-use Rattle.reading_stages.specs.FileView.{element_name}
-use Rattle.reading_stages.specs.Names.{text_of}
+use Rattle.stage_definitions.specs.FileView.{element_name}
+use Rattle.stage_definitions.specs.Names.{text_of}
 use Rattle.kb_names.proofs.vocabularies.add_names.Given as goal
 
 abbrev pub invariant-loop-tail : goal.invariant-loop-tail

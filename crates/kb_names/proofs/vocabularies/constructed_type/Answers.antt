@@ -1,9 +1,9 @@
 use Rattle.std.proofs.Common.{◌≡◌, ◌+◌, [], ◌∷◌, arith, length, map}
 use Rattle.std.proofs.lemmas.Grind.{common_steps}
-use Rattle.reading_stages.specs.FileView.{element_name}
-use Rattle.reading_stages.specs.NamesStage.{name_noted}
-use Rattle.reading_stages.specs.Uses.{counted}
-use Rattle.fo_syntax.specs.View.{name_view}
+use Rattle.stage_definitions.specs.FileView.{element_name}
+use Rattle.stage_definitions.specs.NamesStage.{name_noted}
+use Rattle.stage_definitions.specs.Uses.{counted}
+use Rattle.grammar.specs.View.{name_view}
 use Rattle.formula_names.proofs.ChainEnds.{always_on_ok}
 use Rattle.formula_names.proofs.PerDeclaration.{type_noted}
 use Rattle.kb_names.proofs.vocabularies.constructed_type.Goals as goal

@@ -1,9 +1,9 @@
 use Rattle.std.proofs.Common.{◌≡◌, ◌+◌, length, map}
 use Rattle.std.specs.Option.{option_map}
-use Rattle.reading_stages.specs.FileView.{argument_names, result_name}
-use Rattle.reading_stages.specs.NamesStage.{name_noted}
-use Rattle.reading_stages.specs.Uses.{counted, position, position_uses}
-use Rattle.fo_syntax.specs.View.{name_view}
+use Rattle.stage_definitions.specs.FileView.{argument_names, result_name}
+use Rattle.stage_definitions.specs.NamesStage.{name_noted}
+use Rattle.stage_definitions.specs.Uses.{counted, position, position_uses}
+use Rattle.grammar.specs.View.{name_view}
 use Rattle.formula_names.specs.Meanings.{names_in}
 use Rattle.formula_names.proofs.ChainEnds.{always_on_ok}
 use Rattle.formula_names.proofs.PerDeclaration.{symbol_noted}

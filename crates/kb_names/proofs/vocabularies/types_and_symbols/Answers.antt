@@ -1,6 +1,6 @@
-use Rattle.reading_stages.specs.FileView.{declaration_in}
-use Rattle.reading_stages.specs.NamesStage.{name_noted}
-use Rattle.reading_stages.specs.Numbering.{types_in, symbols_in}
+use Rattle.stage_definitions.specs.FileView.{declaration_in}
+use Rattle.stage_definitions.specs.NamesStage.{name_noted}
+use Rattle.stage_definitions.specs.Numbering.{types_in, symbols_in}
 use Rattle.formula_names.specs.Meanings.{names_in}
 use Rattle.formula_names.proofs.PerDeclaration.{types_in-next, symbols_in-next, next_added, more_types, more_symbols}
 use Rattle.formula_names.proofs.PerDeclaration.{next_noted}

@@ -1,8 +1,8 @@
 use Rattle.std.proofs.Common.{◌≡◌, ◌++◌, drop, fold, length, map}
-use Rattle.reading_stages.specs.FileView.{declaration_in}
-use Rattle.reading_stages.specs.NamesStage.{name_noted}
-use Rattle.reading_stages.specs.Numbering.{types_in, symbols_in}
-use Rattle.reading_stages.specs.Uses.{uses_in_declarations}
+use Rattle.stage_definitions.specs.FileView.{declaration_in}
+use Rattle.stage_definitions.specs.NamesStage.{name_noted}
+use Rattle.stage_definitions.specs.Numbering.{types_in, symbols_in}
+use Rattle.stage_definitions.specs.Uses.{uses_in_declarations}
 use Rattle.formula_names.specs.Meanings.{names_in}
 use Rattle.kb_names.proofs.vocabularies.types_and_symbols.Given as goal
 

@@ -1,7 +1,7 @@
 use Rattle.std.proofs.Common.{sym, subst}
 use Rattle.kb_logic.specs.Bases.{Base}
 use Rattle.kb_logic.specs.Trees.{TheoryTree}
-use Rattle.reading_stages.specs.FileBases.{base_of_file}
+use Rattle.stage_definitions.specs.FileBases.{base_of_file}
 use Rattle.type_derivation.specs.TypedViews.{typed_view}
 use Rattle.bound_laws.specs.Closures.{IsNarrowed}
 use Rattle.quantifier_bounds.specs.Fits.{TheoryFits}

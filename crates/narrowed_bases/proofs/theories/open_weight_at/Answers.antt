@@ -3,9 +3,9 @@ use Rattle.kb_logic.specs.Bases.{Base}
 use Rattle.kb_logic.specs.Trees.{TermTree, TheoryTree}
 use Rattle.kb_logic.specs.Views.{theory_view}
 use Rattle.kb_logic.specs.declared.syntax.Term.{Term}
-use Rattle.reading_stages.specs.FileBases.{base_of_file, theory_at}
-use Rattle.reading_stages.specs.SizesStage.{capped}
-use Rattle.reading_stages.specs.TypedFiles.{TypedTermTree}
+use Rattle.stage_definitions.specs.FileBases.{base_of_file, theory_at}
+use Rattle.stage_definitions.specs.SizesStage.{capped}
+use Rattle.stage_definitions.specs.TypedFiles.{TypedTermTree}
 use Rattle.type_derivation.specs.declared.typed.Named.{Named}
 use Rattle.type_derivation.specs.TypedViews.{named_term_view, typed_view}
 use Rattle.open_sizes.specs.Fits.{WeighingFits}

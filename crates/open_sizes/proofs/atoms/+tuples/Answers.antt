@@ -4,7 +4,7 @@ use Rattle.kb_logic.specs.declared.elements.Elem.{Elem}
 use Rattle.kb_logic.specs.Denotations.{denotation_of}
 use Rattle.kb_logic.specs.Values.{value_view}
 use Rattle.partial_structures.specs.Known.{known_in, place_view, spot_of, stepped}
-use Rattle.kb_sizes.proofs.Capping.{stays}
+use Rattle.size_stage.proofs.Capping.{stays}
 use Rattle.open_sizes.specs.Atoms.{open_in_tuples}
 use Rattle.open_sizes.proofs.Unknown.{sum_first, sum_next, spot_next, tuples_next}
 use Rattle.open_sizes.proofs.atoms.+tuples.Goals as goal

@@ -1,6 +1,6 @@
 use Rattle.std.proofs.Common.{ℕ, List, [], ap, ◌∙◌}
 use Rattle.partial_structures.specs.Known.{known_in}
-use Rattle.reading_stages.specs.SizesStage.{capped}
+use Rattle.stage_definitions.specs.SizesStage.{capped}
 use Rattle.open_sizes.specs.Atoms.{open_in_tuples}
 use Rattle.open_sizes.proofs.atoms.in_symbol.Goals as goal
 

@@ -4,11 +4,12 @@ use Rattle.kb_logic.specs.declared.vocabularies.Symbol.{Symbol}
 use Rattle.partial_structures.specs.KnownAtoms.{KnownAtoms, atoms_of, value_at}
 use Rattle.partial_structures.specs.declared.truths.Truth.{Truth}
 use Rattle.quantifier_bounds.specs.Steps.{unknown_atoms}
-use Rattle.reading_stages.specs.SizesStage.{capped}
-use Rattle.kb_sizes.proofs.Capping.{stays}
+use Rattle.stage_definitions.specs.SizesStage.{capped}
+use Rattle.size_stage.proofs.Capping.{stays}
 use Rattle.open_sizes.specs.Atoms.{open_in_symbol}
 use Rattle.open_sizes.specs.OpenWeights.{where_open}
-use Rattle.open_sizes.proofs.Unknown.{sum_first, sum_next, sum_done, by_symbols, symbol_at, as_many, get_here, of_truths}
+use Rattle.open_sizes.proofs.Unknown.{sum_first, sum_next, sum_done, by_symbols, symbol_at, as_many, get_here}
+use Rattle.open_sizes.proofs.Unknown.{of_truths}
 use Rattle.open_sizes.proofs.Unknown.{some_at}
 use Rattle.open_sizes.proofs.atoms.listed.Goals as goal
 

@@ -1,7 +1,7 @@
 use Rattle.std.proofs.Common.{◌≡◌, ◌+◌, drop}
 use Rattle.std.specs.List.{sum_by}
-use Rattle.reading_stages.specs.SizesStage.{capped}
-use Rattle.kb_sizes.proofs.Capping.{Same}
+use Rattle.stage_definitions.specs.SizesStage.{capped}
+use Rattle.size_stage.proofs.Capping.{Same}
 use Rattle.open_sizes.specs.OpenWeights.{where_open}
 use Rattle.open_sizes.proofs.atoms.unknown_among.Given as goal
 

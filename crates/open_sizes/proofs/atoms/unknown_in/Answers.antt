@@ -3,7 +3,7 @@ use Rattle.std.specs.List.{sum_by, enumerate_from}
 use Rattle.kb_logic.specs.declared.vocabularies.Symbol.{Symbol}
 use Rattle.partial_structures.specs.Known.{known_in}
 use Rattle.quantifier_bounds.specs.Steps.{unknown_atoms}
-use Rattle.kb_sizes.proofs.Capping.{stays}
+use Rattle.size_stage.proofs.Capping.{stays}
 use Rattle.open_sizes.specs.Atoms.{open_in_symbol}
 use Rattle.open_sizes.proofs.Unknown.{sum_first, sum_next, sum_done, by_symbols, symbol_at, as_many, get_here}
 use Rattle.open_sizes.proofs.atoms.unknown_in.Goals as goal

@@ -2,9 +2,9 @@ use Rattle.std.proofs.Common.{◌≡◌, ◌+◌, ℕ, drop}
 use Rattle.std.specs.List.{sum_by, enumerate_from}
 use Rattle.kb_logic.specs.declared.vocabularies.Symbol.{Symbol}
 use Rattle.partial_structures.specs.Known.{known_in}
-use Rattle.reading_stages.specs.SizesStage.{capped}
+use Rattle.stage_definitions.specs.SizesStage.{capped}
 use Rattle.quantifier_bounds.specs.Steps.{unknown_atoms}
-use Rattle.kb_sizes.proofs.Capping.{Same}
+use Rattle.size_stage.proofs.Capping.{Same}
 use Rattle.open_sizes.specs.Atoms.{open_in_symbol}
 use Rattle.open_sizes.proofs.atoms.unknown_in.Given as goal
 

@@ -4,8 +4,8 @@ use Rattle.kb_logic.specs.declared.elements.Elem.{Elem}
 use Rattle.kb_logic.specs.Denotations.{Denotation, denotation_of}
 use Rattle.partial_structures.specs.Applications.{value_certain}
 use Rattle.partial_structures.specs.Known.{known_in, place_view, spot_of}
-use Rattle.reading_stages.specs.SizesStage.{capped}
-use Rattle.kb_sizes.proofs.Capping.{Same}
+use Rattle.stage_definitions.specs.SizesStage.{capped}
+use Rattle.size_stage.proofs.Capping.{Same}
 use Rattle.open_sizes.specs.Atoms.{open_in_values}
 use Rattle.open_sizes.specs.OpenWeights.{where_open}
 use Rattle.open_sizes.proofs.atoms.values.Given as goal

@@ -2,8 +2,8 @@ use Rattle.std.proofs.Common.{◌≡◌, ◌+◌, [], map, drop}
 use Rattle.std.specs.List.{AllByRecursion, sum_by}
 use Rattle.certain_truth.specs.KnownArithmetic.{ValueFits}
 use Rattle.type_derivation.specs.TypedViews.{named_term_view}
-use Rattle.reading_stages.specs.SizesStage.{capped}
-use Rattle.kb_sizes.proofs.Capping.{Same}
+use Rattle.stage_definitions.specs.SizesStage.{capped}
+use Rattle.size_stage.proofs.Capping.{Same}
 use Rattle.open_sizes.specs.OpenWeights.{open_in_asked}
 use Rattle.open_sizes.proofs.bases.asked.Given as goal
 

@@ -2,8 +2,8 @@ use Rattle.std.proofs.Common.{◌≡◌, ◌+◌, map, drop}
 use Rattle.std.specs.List.{AllByRecursion, sum_by}
 use Rattle.kb_logic.specs.Trees.{DefinitionTree}
 use Rattle.kb_logic.specs.Views.{definition_view}
-use Rattle.reading_stages.specs.SizesStage.{capped}
-use Rattle.kb_sizes.proofs.Capping.{Same}
+use Rattle.stage_definitions.specs.SizesStage.{capped}
+use Rattle.size_stage.proofs.Capping.{Same}
 use Rattle.open_sizes.specs.Fits.{BodyFits}
 use Rattle.open_sizes.specs.OpenWeights.{open_in_definition}
 use Rattle.open_sizes.proofs.bases.definitions.Given as goal

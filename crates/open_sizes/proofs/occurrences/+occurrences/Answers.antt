@@ -16,14 +16,14 @@ use Rattle.plain_evaluation.proofs.Folds.{after_front, fold_by_front, each_after
 use Rattle.plain_evaluation.proofs.Folds.{fold_stays}
 use Rattle.partial_structures.specs.declared.truths.Truth.{Truth}
 use Rattle.partial_structures.specs.declared.truths.Truth.TheVariants as truth
-use Rattle.reading_stages.specs.SizesStage.{capped}
+use Rattle.stage_definitions.specs.SizesStage.{capped}
 use Rattle.certain_truth.specs.Certainty.{certain_truth, known_value}
 use Rattle.certain_truth.specs.Evaluation.{joined}
 use Rattle.certain_truth.specs.KnownArithmetic.{CertaintyFits, ValueFits}
 use Rattle.certain_truth.proofs.Connected.{fold_both, fold_either}
 use Rattle.quantifier_bounds.specs.Steps.{is_unknown}
-use Rattle.kb_sizes.proofs.Capping.{three_parts}
-use Rattle.kb_sizes.proofs.Steps.{formula_view-Compare}
+use Rattle.size_stage.proofs.Capping.{three_parts}
+use Rattle.size_stage.proofs.Steps.{formula_view-Compare}
 use Rattle.known_guards.proofs.FormulaViews.{formula_view-Implies}
 use Rattle.open_sizes.specs.declared.connectives.Joining.TheVariants.{Conjunction, Disjunction}
 use Rattle.open_sizes.specs.declared.weighed.Weighed.{Weighed}

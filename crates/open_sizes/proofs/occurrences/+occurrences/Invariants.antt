@@ -6,12 +6,12 @@ use Rattle.kb_logic.specs.Trees.{formulas_of, summands_of, terms_of}
 use Rattle.kb_logic.specs.Views.{formula_view, signed_view, term_view}
 use Rattle.plain_evaluation.specs.Environments.{env_view}
 use Rattle.plain_evaluation.proofs.Folds.{after_front}
-use Rattle.reading_stages.specs.SizesStage.{capped}
+use Rattle.stage_definitions.specs.SizesStage.{capped}
 use Rattle.partial_structures.specs.declared.truths.Truth.{Truth}
 use Rattle.certain_truth.specs.Certainty.{certain_truth}
 use Rattle.certain_truth.specs.Evaluation.{joined, parts_of}
 use Rattle.certain_truth.specs.KnownArithmetic.{OperandsFit, PartsFit, ValuesFit}
-use Rattle.kb_sizes.proofs.Capping.{Same}
+use Rattle.size_stage.proofs.Capping.{Same}
 use Rattle.open_sizes.specs.OpenWeights.{open_in_parts, open_in_summands, open_in_term, open_in_terms}
 use Rattle.open_sizes.specs.OpenWeights.{open_occurrences}
 use Rattle.open_sizes.specs.Weighings.{is_all, is_over}

@@ -13,7 +13,7 @@ use Rattle.certain_truth.specs.KnownArithmetic.{CertaintyFits}
 use Rattle.row_ranges.specs.Leads.{first_step}
 use Rattle.row_ranges.proofs.Walking.{all-out, fits-all, fits-one, led-below, order-below}
 use Rattle.known_guards.specs.Guards.{IsRuledOut}
-use Rattle.reading_stages.specs.SizesStage.{capped}
+use Rattle.stage_definitions.specs.SizesStage.{capped}
 use Rattle.open_sizes.specs.OpenWeights.{open_occurrences}
 use Rattle.open_sizes.specs.Weighings.{is_all, is_over}
 use Rattle.open_sizes.proofs.Passed.{passed_over}

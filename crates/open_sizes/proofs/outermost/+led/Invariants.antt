@@ -7,7 +7,7 @@ use Rattle.plain_evaluation.proofs.Folds.{after_front}
 use Rattle.partial_structures.specs.declared.truths.Truth.{Truth}
 use Rattle.certain_truth.specs.Certainty.{certain_truth}
 use Rattle.certain_truth.specs.Evaluation.{joined}
-use Rattle.reading_stages.specs.SizesStage.{capped}
+use Rattle.stage_definitions.specs.SizesStage.{capped}
 use Rattle.open_sizes.specs.OpenWeights.{open_occurrences}
 use Rattle.open_sizes.specs.Weighings.{is_all, is_over}
 use Rattle.open_sizes.proofs.outermost.+led.Given as goal

@@ -2,7 +2,7 @@ use Rattle.std.proofs.Common.{◌≡◌, ◌+◌, refl, ap, ◌∙◌, arith}
 use Rattle.std.specs.List.{sum_by}
 use Rattle.kb_logic.specs.Structures.{choices}
 use Rattle.kb_logic.specs.Views.{formula_view}
-use Rattle.reading_stages.specs.SizesStage.{capped}
+use Rattle.stage_definitions.specs.SizesStage.{capped}
 use Rattle.open_sizes.specs.OpenWeights.{open_occurrences}
 use Rattle.open_sizes.proofs.Walks.{stopped_sum}
 use Rattle.open_sizes.proofs.outermost.in_instances.Goals as goal

@@ -1,7 +1,7 @@
 use Rattle.std.proofs.Common.{inr, refl}
-use Rattle.fo_syntax.specs.BlockView.{structure_view}
-use Rattle.reading_stages.specs.FileView.{file_in}
-use Rattle.reading_stages.specs.FileViews.{kb_view}
+use Rattle.grammar.specs.BlockView.{structure_view}
+use Rattle.stage_definitions.specs.FileView.{file_in}
+use Rattle.stage_definitions.specs.FileViews.{kb_view}
 use Rattle.type_derivation.specs.TypedViews.{typed_view}
 use Rattle.reading_cases.specs.Lines.{IsChosenLine, fault_text}
 use Rattle.reading_cases.proofs.Data.{measured_is}

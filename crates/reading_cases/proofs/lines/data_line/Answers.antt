@@ -1,6 +1,6 @@
 use Rattle.std.proofs.Common.{inr, refl, sym}
-use Rattle.fo_syntax.specs.BlockView.{structure_view}
-use Rattle.reading_stages.specs.FileView.{file_in}
+use Rattle.grammar.specs.BlockView.{structure_view}
+use Rattle.stage_definitions.specs.FileView.{file_in}
 use Rattle.reading_cases.specs.Lines.{IsDataLine, fault_text}
 use Rattle.reading_cases.proofs.Data.{chosen_is, read_as}
 use Rattle.reading_cases.proofs.Files.{file_read, line_is}

@@ -1,7 +1,7 @@
 use Rattle.std.proofs.Common.{inl, inr, refl}
-use Rattle.fo_syntax.specs.BlockView.{structure_view}
+use Rattle.grammar.specs.BlockView.{structure_view}
 use Rattle.type_derivation.specs.TypedViews.{typed_view}
-use Rattle.kb_sizes.specs.Measures.{measure_view}
+use Rattle.size_stage.specs.Measures.{measure_view}
 use Rattle.reading_cases.specs.Lines.{IsMeasuredLine, fault_text, sizes_text}
 use Rattle.reading_cases.proofs.Files.{line_is}
 use Rattle.reading_cases.proofs.lines.measured_line.Goals as goal

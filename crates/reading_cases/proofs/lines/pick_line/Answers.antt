@@ -1,6 +1,6 @@
 use Rattle.std.proofs.Common.{inl, inr, refl}
 use Rattle.block_choice.specs.Choices.{word_given}
-use Rattle.reading_stages.specs.FileView.{file_in}
+use Rattle.stage_definitions.specs.FileView.{file_in}
 use Rattle.reading_cases.specs.Lines.{IsPickLine, fault_text, picked_text}
 use Rattle.reading_cases.proofs.Files.{file_read, line_is}
 use Rattle.reading_cases.proofs.lines.pick_line.Goals as goal

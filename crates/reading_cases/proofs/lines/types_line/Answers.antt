@@ -1,7 +1,7 @@
 use Rattle.std.proofs.Common.{inl, inr, refl}
 use Rattle.std.specs.Prelude.{codes}
-use Rattle.reading_stages.specs.FileView.{file_in}
-use Rattle.reading_stages.specs.FileViews.{kb_view}
+use Rattle.stage_definitions.specs.FileView.{file_in}
+use Rattle.stage_definitions.specs.FileViews.{kb_view}
 use Rattle.type_derivation.specs.TypedViews.{typed_view}
 use Rattle.reading_cases.specs.Lines.{IsTypesLine, fault_text}
 use Rattle.reading_cases.proofs.Files.{file_read, line_is}

@@ -1,6 +1,6 @@
 use Rattle.std.proofs.Common.{◌≡◌, map, take}
-use Rattle.fo_syntax.specs.BlockView.{rule_view}
-use Rattle.reading_stages.specs.Uses.{head_word}
+use Rattle.grammar.specs.BlockView.{rule_view}
+use Rattle.stage_definitions.specs.Uses.{head_word}
 use Rattle.rule_names.proofs.definitions.defined_names.Given as goal
 
 abbrev pub invariant-loop-rule : goal.invariant-loop-rule

@@ -1,6 +1,6 @@
 use Rattle.std.proofs.Common.{◌≡◌, map}
-use Rattle.fo_syntax.specs.BlockView as block
-use Rattle.reading_stages.specs.Uses.{head_word}
+use Rattle.grammar.specs.BlockView as block
+use Rattle.stage_definitions.specs.Uses.{head_word}
 use Rattle.rule_names.proofs.definitions.definition.Goals as goal
 
 pub returns-clause-noted : goal.returns-clause-noted

@@ -1,9 +1,9 @@
 use Rattle.std.proofs.Common.{◌≡◌, map, refl}
 use Rattle.std.specs.Option.{option_map}
 use Rattle.std.proofs.lemmas.Result.{IfOk-weaker}
-use Rattle.fo_syntax.specs.BlockTrees.{value_head}
-use Rattle.fo_syntax.specs.BlockView as block
-use Rattle.fo_syntax.specs.View as view
+use Rattle.grammar.specs.BlockTrees.{value_head}
+use Rattle.grammar.specs.BlockView as block
+use Rattle.grammar.specs.View as view
 use Rattle.rule_names.proofs.RuleLaws.{with_value}
 use Rattle.rule_names.proofs.definitions.rule.Goals as goal
 

@@ -1,10 +1,10 @@
 use Rattle.std.proofs.Common.{◌≡◌, fold, map, take}
 use Rattle.std.specs.List.{flat_map}
-use Rattle.fo_syntax.specs.BlockView as block
-use Rattle.reading_stages.specs.NamedViews.{rule_view}
-use Rattle.reading_stages.specs.NamesStage.{name_noted}
-use Rattle.reading_stages.specs.Numbering.{named_rule}
-use Rattle.reading_stages.specs.Uses.{uses_in_rule}
+use Rattle.grammar.specs.BlockView as block
+use Rattle.stage_definitions.specs.NamedViews.{rule_view}
+use Rattle.stage_definitions.specs.NamesStage.{name_noted}
+use Rattle.stage_definitions.specs.Numbering.{named_rule}
+use Rattle.stage_definitions.specs.Uses.{uses_in_rule}
 use Rattle.formula_names.specs.Meanings.{names_in}
 use Rattle.rule_names.proofs.definitions.rules.Given as goal
 

@@ -1,12 +1,12 @@
 use Rattle.std.proofs.Common.{◌≡◌, ◌∙◌, ◌∷◌, ◌++◌, [], arith, map, refl, rules, sym}
 use Rattle.std.proofs.lemmas.Grind.{common_steps}
-use Rattle.fo_syntax.specs.Trees as raw
-use Rattle.fo_syntax.specs.View as view
-use Rattle.fo_syntax.specs.declared.raw.RawApp.{the_lemmas}
-use Rattle.fo_syntax.specs.declared.raw.RawTerms.{out-RawTerms}
-use Rattle.fo_syntax.specs.declared.raw.RawTermsTail.{out-RawTermsTail}
-use Rattle.reading_stages.specs.NamedViews.{term_view}
-use Rattle.reading_stages.specs.Numbering.{named_term}
+use Rattle.grammar.specs.Trees as raw
+use Rattle.grammar.specs.View as view
+use Rattle.grammar.specs.declared.raw.RawApp.{the_lemmas}
+use Rattle.grammar.specs.declared.raw.RawTerms.{out-RawTerms}
+use Rattle.grammar.specs.declared.raw.RawTermsTail.{out-RawTermsTail}
+use Rattle.stage_definitions.specs.NamedViews.{term_view}
+use Rattle.stage_definitions.specs.Numbering.{named_term}
 use Rattle.formula_names.specs.Steps.{context_of, names_known}
 use Rattle.formula_names.proofs.ChainEnds.{pushed}
 use Rattle.formula_names.proofs.Operands.{argument_named}

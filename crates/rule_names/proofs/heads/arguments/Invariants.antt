@@ -1,6 +1,6 @@
 use Rattle.std.proofs.Common.{map, take}
-use Rattle.fo_syntax.specs.View.{terms_tail_view}
-use Rattle.reading_stages.specs.NamedViews.{term_view}
+use Rattle.grammar.specs.View.{terms_tail_view}
+use Rattle.stage_definitions.specs.NamedViews.{term_view}
 use Rattle.formula_names.proofs.Operands.{argument_named}
 use Rattle.formula_names.proofs.StepLaws.{Adds}
 use Rattle.rule_names.proofs.HeadLaws.{tail_uses}

@@ -1,6 +1,6 @@
 use Rattle.std.proofs.Common.{map}
 use Rattle.std.proofs.lemmas.List.{take_all}
-use Rattle.reading_stages.specs.NamedViews.{var_view}
+use Rattle.stage_definitions.specs.NamedViews.{var_view}
 use Rattle.rule_names.proofs.HeadLaws.{list_turn}
 use Rattle.rule_names.proofs.heads.bind_lists.Goals as goal
 

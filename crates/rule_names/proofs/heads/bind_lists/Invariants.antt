@@ -1,7 +1,7 @@
 use Rattle.std.proofs.Common.{◌++◌, map, take}
-use Rattle.fo_syntax.specs.BlockView.{binding_view}
-use Rattle.reading_stages.specs.NamedViews.{var_view}
-use Rattle.reading_stages.specs.Uses.{rule_scope}
+use Rattle.grammar.specs.BlockView.{binding_view}
+use Rattle.stage_definitions.specs.NamedViews.{var_view}
+use Rattle.stage_definitions.specs.Uses.{rule_scope}
 use Rattle.formula_names.specs.Steps.{IsStep, names_known}
 use Rattle.rule_names.specs.Heads.{named_lists, uses_of_lists}
 use Rattle.rule_names.proofs.heads.bind_lists.Given as goal

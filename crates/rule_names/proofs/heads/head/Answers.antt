@@ -1,7 +1,7 @@
 use Rattle.std.proofs.Common.{◌≡◌, [], arith, map}
 use Rattle.std.proofs.lemmas.Grind.{common_steps}
-use Rattle.fo_syntax.specs.BlockView as block
-use Rattle.reading_stages.specs.NamedViews.{var_view}
+use Rattle.grammar.specs.BlockView as block
+use Rattle.stage_definitions.specs.NamedViews.{var_view}
 use Rattle.rule_names.proofs.HeadLaws.{headed}
 use Rattle.rule_names.proofs.heads.head.Goals as goal
 

@@ -1,7 +1,7 @@
 use Rattle.std.proofs.Common.{◌≡◌, ◌∙◌, Bool, true, IsTrue, sym, rules}
-use Rattle.reading_stages.specs.DataDomains as domain
-use Rattle.data_entries.specs.EntryViews.{cell_view}
-use Rattle.data_entries.specs.declared.elements.Cell.{Cell}
+use Rattle.stage_definitions.specs.DataDomains as domain
+use Rattle.structure_entries.specs.EntryViews.{cell_view}
+use Rattle.structure_entries.specs.declared.elements.Cell.{Cell}
 use Rattle.structure_reader.proofs.NextDomain.{next_all}
 use Rattle.structure_reader.proofs.domains.are_in_range.Goals as goal
 

@@ -1,8 +1,8 @@
 use Rattle.std.proofs.Common.{drop, IsTrue}
 use Rattle.std.specs.List.{AllByRecursion}
-use Rattle.reading_stages.specs.DataDomains as domain
-use Rattle.data_entries.specs.EntryViews.{cell_view}
-use Rattle.data_entries.specs.declared.elements.Cell.{Cell}
+use Rattle.stage_definitions.specs.DataDomains as domain
+use Rattle.structure_entries.specs.EntryViews.{cell_view}
+use Rattle.structure_entries.specs.declared.elements.Cell.{Cell}
 use Rattle.structure_reader.proofs.domains.are_in_range.Given as goal
 
 abbrev pub invariant-loop-cell : goal.invariant-loop-cell

@@ -1,6 +1,6 @@
 use Rattle.std.proofs.Common.{◌∙◌, map}
-use Rattle.reading_stages.specs.Elements as set
-use Rattle.data_entries.specs.EntryViews.{cell_view}
+use Rattle.stage_definitions.specs.Elements as set
+use Rattle.structure_entries.specs.EntryViews.{cell_view}
 use Rattle.data_domains.specs.declared.types.TypeData.{TypeData}
 use Rattle.structure_reader.proofs.NextDomain.{all_domains, at_end}
 use Rattle.structure_reader.proofs.domains.domains_of.Goals as goal

@@ -1,6 +1,6 @@
 use Rattle.std.proofs.Common.{◌≡◌, ◌++◌, drop, map}
-use Rattle.reading_stages.specs.Elements as set
-use Rattle.data_entries.specs.EntryViews.{cell_view}
+use Rattle.stage_definitions.specs.Elements as set
+use Rattle.structure_entries.specs.EntryViews.{cell_view}
 use Rattle.data_domains.specs.declared.types.TypeData.{TypeData}
 use Rattle.structure_reader.proofs.domains.domains_of.Given as goal
 

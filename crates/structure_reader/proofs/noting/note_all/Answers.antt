@@ -1,8 +1,8 @@
 use Rattle.std.proofs.Common.{[], ◌∙◌, fold, map, sym, ap, subst}
-use Rattle.reading_stages.specs.DataStage as stage
-use Rattle.reading_stages.specs.DataFacts.{facts_in}
-use Rattle.data_entries.specs.EntryViews.{fact_view}
-use Rattle.data_entries.specs.SaidViews.{said_view}
+use Rattle.stage_definitions.specs.DataStage as stage
+use Rattle.stage_definitions.specs.DataFacts.{facts_in}
+use Rattle.structure_entries.specs.EntryViews.{fact_view}
+use Rattle.structure_entries.specs.SaidViews.{said_view}
 use Rattle.data_domains.specs.TypeSets.{AreTypesOf}
 use Rattle.type_derivation.specs.TypedViews.{typed_view}
 use Rattle.structure_reader.proofs.Uses.{four_lists}

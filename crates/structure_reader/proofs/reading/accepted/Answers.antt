@@ -1,11 +1,11 @@
 use Rattle.std.proofs.Common.{◌≡◌, ◌∙◌, List, None, fold, map, subst, sym, ap}
 use Rattle.kb_logic.specs.declared.vocabularies.TypeDecl.{TypeDecl}
-use Rattle.fo_syntax.specs.BlockView.{structure_view}
-use Rattle.reading_stages.specs.DataEntries.{Said, said_in}
-use Rattle.reading_stages.specs.DataStage.{data_causes, data_noted, data_uses, is_data_refused, place_of_data_use}
-use Rattle.reading_stages.proofs.EarliestLaws.{earliest_noted, nothing_noted}
+use Rattle.grammar.specs.BlockView.{structure_view}
+use Rattle.stage_definitions.specs.DataEntries.{Said, said_in}
+use Rattle.stage_definitions.specs.DataStage.{data_causes, data_noted, data_uses, is_data_refused, place_of_data_use}
+use Rattle.stage_definitions.proofs.EarliestLaws.{earliest_noted, nothing_noted}
 use Rattle.data_domains.specs.TypeSets.{AreTypesOf}
-use Rattle.data_entries.specs.SaidViews.{said_view}
+use Rattle.structure_entries.specs.SaidViews.{said_view}
 use Rattle.type_derivation.specs.TypedViews.{typed_view}
 use Rattle.structure_reader.proofs.reading.accepted.Goals as goal
 

@@ -1,12 +1,12 @@
 use Rattle.std.proofs.Common.{◌∙◌, map, subst, sym, ap}
 use Rattle.std.specs.List.{AllByRecursion}
-use Rattle.fo_syntax.specs.BlockView.{structure_view}
-use Rattle.reading_stages.specs.DataAnswer.{given_by}
-use Rattle.data_entries.specs.SaidViews.{said_view}
+use Rattle.grammar.specs.BlockView.{structure_view}
+use Rattle.stage_definitions.specs.DataAnswer.{given_by}
+use Rattle.structure_entries.specs.SaidViews.{said_view}
 use Rattle.data_domains.specs.TypeSets.{AreTypesOf}
 use Rattle.data_filling.specs.Filling.{AreAccepted}
-use Rattle.kb_sizes.specs.Counted.{IsCountable}
-use Rattle.kb_sizes.specs.Measures.{measure_view}
+use Rattle.size_stage.specs.Counted.{IsCountable}
+use Rattle.size_stage.specs.Measures.{measure_view}
 use Rattle.type_derivation.specs.TypedViews.{typed_view}
 use Rattle.structure_reader.proofs.Accepted.{can_be_filled, is_measured, sizes_refused}
 use Rattle.structure_reader.proofs.NextDomain.{all_countable}

@@ -1,6 +1,6 @@
 use Rattle.std.proofs.Common.{map, subst, sym, ap}
-use Rattle.fo_syntax.specs.BlockView.{structure_view}
-use Rattle.data_entries.specs.SaidViews.{said_view}
+use Rattle.grammar.specs.BlockView.{structure_view}
+use Rattle.structure_entries.specs.SaidViews.{said_view}
 use Rattle.data_filling.specs.Filling.{AreAccepted}
 use Rattle.type_derivation.specs.TypedViews.{typed_view}
 use Rattle.structure_reader.proofs.Accepted.{can_be_filled}

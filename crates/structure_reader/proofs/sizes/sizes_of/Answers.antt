@@ -1,7 +1,7 @@
 use Rattle.std.proofs.Common.{subst}
 use Rattle.std.proofs.lemmas.Result.{IfOk-weaker, IfErr-weaker}
-use Rattle.kb_sizes.specs.Measures.{measure_view, FailsWith}
-use Rattle.reading_stages.specs.SizesStage.{AreSizesOf}
+use Rattle.size_stage.specs.Measures.{measure_view, FailsWith}
+use Rattle.stage_definitions.specs.SizesStage.{AreSizesOf}
 use Rattle.type_derivation.specs.TypedViews.{typed_view}
 use Rattle.structure_reader.proofs.NextDomain.{all_domains}
 use Rattle.structure_reader.proofs.sizes.sizes_of.Goals as goal

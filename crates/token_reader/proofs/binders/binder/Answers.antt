@@ -1,6 +1,6 @@
 use Rattle.std.proofs.lemmas.Result.{err_from_is_err_and}
-use Rattle.fo_syntax.specs.Terminals.{toks}
-use Rattle.fo_syntax.specs.View.{var_view}
+use Rattle.grammar.specs.Terminals.{toks}
+use Rattle.grammar.specs.View.{var_view}
 use Rattle.token_reader.proofs.Binds.{vars_first_one}
 use Rattle.token_reader.proofs.binders.binder.Goals as goal
 

@@ -1,8 +1,8 @@
 use Rattle.std.proofs.Common.{arith, map}
 use Rattle.std.proofs.lemmas.Result.{err_from_is_err_and}
 use Rattle.std.proofs.lemmas.List.{map_push}
-use Rattle.fo_syntax.specs.Terminals.{toks}
-use Rattle.fo_syntax.specs.View.{var_tail_view}
+use Rattle.grammar.specs.Terminals.{toks}
+use Rattle.grammar.specs.View.{var_tail_view}
 use Rattle.token_reader.proofs.Inside.{fails_in}
 use Rattle.token_reader.proofs.Binds.{binder_in, binder_step, binder_closes}
 use Rattle.token_reader.proofs.binders.more_vars.Goals as goal

@@ -1,7 +1,7 @@
 use Rattle.std.proofs.Common.{◌≤◌, List, length, map}
-use Rattle.fo_syntax.specs.Terminals.{Tok, toks}
-use Rattle.fo_syntax.specs.Trees.{Var}
-use Rattle.fo_syntax.specs.View.{var_tail_view}
+use Rattle.grammar.specs.Terminals.{Tok, toks}
+use Rattle.grammar.specs.Trees.{Var}
+use Rattle.grammar.specs.View.{var_tail_view}
 use Rattle.token_reader.specs.Variables.{VarsAre}
 use Rattle.token_reader.proofs.binders.more_vars.Given as goal
 

@@ -1,7 +1,7 @@
 use Rattle.std.proofs.Common.{◌≡◌, ◌∷◌}
 use Rattle.std.proofs.lemmas.Result.{err_from_is_err_and}
-use Rattle.fo_syntax.specs.declared.terminal.Terminal.TheVariants as t
-use Rattle.fo_syntax.specs.Terminals.{toks, sign}
+use Rattle.grammar.specs.declared.terminal.Terminal.TheVariants as t
+use Rattle.grammar.specs.Terminals.{toks, sign}
 use Rattle.token_reader.proofs.Binds.{number_none, number_unequal, number_other, number_last_fails}
 use Rattle.token_reader.proofs.binders.number.Goals as goal
 

@@ -1,10 +1,10 @@
 use Rattle.std.proofs.Common.{◌≡◌, ◌∷◌, ◌∙◌, [], List, ap, refl}
 use Rattle.std.proofs.lemmas.Result.{err_from_is_err_and}
-use Rattle.fo_syntax.specs.declared.terminal.Terminal.TheVariants as t
-use Rattle.fo_syntax.specs.Terminals.{Tok, toks, sign}
-use Rattle.fo_syntax.specs.Trees.{name, typed, var}
-use Rattle.fo_syntax.specs.Spelling.{put_name}
-use Rattle.fo_syntax.specs.View.{name_view}
+use Rattle.grammar.specs.declared.terminal.Terminal.TheVariants as t
+use Rattle.grammar.specs.Terminals.{Tok, toks, sign}
+use Rattle.grammar.specs.Trees.{name, typed, var}
+use Rattle.grammar.specs.Spelling.{put_name}
+use Rattle.grammar.specs.View.{name_view}
 use Rattle.token_reader.specs.Machine.{colon, on, run, vars_first}
 use Rattle.token_reader.specs.Parts.{at_vars}
 use Rattle.token_reader.specs.Binders.{binder, put_binder, Whole}

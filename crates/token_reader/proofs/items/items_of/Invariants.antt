@@ -1,8 +1,8 @@
 use Rattle.std.proofs.Common.{◌≡◌, List, map}
 use Rattle.kb_text.specs.Lexing.{HasPassed, left_of, text_of}
 use Rattle.kb_text.specs.Tokens.{Lexeme}
-use Rattle.fo_syntax.specs.Terminals.{toks}
-use Rattle.fo_syntax.specs.Items.{tok_of}
+use Rattle.grammar.specs.Terminals.{toks}
+use Rattle.grammar.specs.Items.{tok_of}
 use Rattle.token_reader.proofs.items.items_of.Given as goal
 
 abbrev pub invariant-loop-lexer : goal.invariant-loop-lexer

@@ -1,5 +1,5 @@
 use Rattle.std.proofs.Common.{rules, append_assoc}
-use Rattle.reading_stages.specs.declared.named.NamedFormula.{the_lemmas}
+use Rattle.stage_definitions.specs.declared.named.NamedFormula.{the_lemmas}
 use Rattle.type_constraints.proofs.collect.+list.Goals as goal
 
 pub formula-returns-in-All : goal.formula-returns-in-All

@@ -1,7 +1,7 @@
 use Rattle.std.proofs.Common.{◌≡◌, ◌++◌, drop, map}
-use Rattle.reading_stages.specs.Demands.{formulas_parts, arguments_parts, factors_parts, summands_parts}
-use Rattle.reading_stages.specs.NamedTrees.{formulas_of, terms_of, summands_of}
-use Rattle.reading_stages.specs.NamedViews.{formula_view, term_view, signed_view}
+use Rattle.stage_definitions.specs.Demands.{formulas_parts, arguments_parts, factors_parts, summands_parts}
+use Rattle.stage_definitions.specs.NamedTrees.{formulas_of, terms_of, summands_of}
+use Rattle.stage_definitions.specs.NamedViews.{formula_view, term_view, signed_view}
 use Rattle.type_constraints.specs.PartViews.{part_view}
 use Rattle.type_constraints.proofs.collect.+list.Given as goal
 

@@ -1,6 +1,6 @@
 use Rattle.std.proofs.Common.{◌≡◌, map, take}
-use Rattle.reading_stages.specs.Demands.{binding_of}
-use Rattle.reading_stages.specs.NamedViews.{var_view}
+use Rattle.stage_definitions.specs.Demands.{binding_of}
+use Rattle.stage_definitions.specs.NamedViews.{var_view}
 use Rattle.type_constraints.specs.PartViews.{binding_view}
 use Rattle.type_constraints.proofs.collect.bindings.Given as goal
 

@@ -1,7 +1,7 @@
 use Rattle.std.proofs.Common.{◌≡◌, ◌∙◌, ◌+◌, arith, rules, ap, sym, length, map, drop, List, ℕ, Option}
 use Rattle.std.proofs.lemmas.Grind.{common_steps}
 use Rattle.std.proofs.lemmas.List.{length-map, drop-map}
-use Rattle.reading_stages.specs.Demands as said
+use Rattle.stage_definitions.specs.Demands as said
 use Rattle.type_constraints.specs.Gathering.{gathered_in, gathered_at, part_by, after, settled_from}
 use Rattle.type_constraints.specs.PartViews.{binding_view, finding_view, part_view, parts_view}
 use Rattle.type_constraints.specs.declared.constraints.Binding.{Binding}

@@ -1,6 +1,6 @@
 use Rattle.std.proofs.Common.{◌≡◌, ◌++◌, map, replicate, take}
-use Rattle.reading_stages.specs.Demands as said
-use Rattle.reading_stages.specs.Typing as typing
+use Rattle.stage_definitions.specs.Demands as said
+use Rattle.stage_definitions.specs.Typing as typing
 use Rattle.type_constraints.specs.PartViews.{binding_view, finding_view}
 use Rattle.type_constraints.proofs.infer.enter.Given as goal
 

@@ -1,5 +1,5 @@
 use Rattle.std.proofs.Common.{ap, sym, ◌∙◌}
-use Rattle.reading_stages.specs.Typing.{side_given}
+use Rattle.stage_definitions.specs.Typing.{side_given}
 use Rattle.type_constraints.specs.Gathering.{after}
 use Rattle.type_constraints.specs.PartViews.{kind_view}
 use Rattle.type_constraints.proofs.Seen.{after-nothing, after-append}

@@ -1,5 +1,5 @@
 use Rattle.std.proofs.Common.{ap, sym, map}
-use Rattle.reading_stages.specs.Typing.{types_known}
+use Rattle.stage_definitions.specs.Typing.{types_known}
 use Rattle.type_constraints.specs.PartViews.{finding_view, kind_view}
 use Rattle.type_constraints.proofs.Seen.{no_side}
 use Rattle.type_constraints.proofs.infer.see_side.Goals as goal

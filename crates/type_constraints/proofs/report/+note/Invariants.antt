@@ -1,6 +1,6 @@
 use Rattle.std.proofs.Common.{◌≡◌, ◌++◌, drop, fold}
-use Rattle.reading_stages.specs.TypesStage as stage
-use Rattle.reading_stages.specs.TypesStage.{type_noted}
+use Rattle.stage_definitions.specs.TypesStage as stage
+use Rattle.stage_definitions.specs.TypesStage.{type_noted}
 use Rattle.type_constraints.specs.ChosenTypes.{types_among}
 use Rattle.type_constraints.specs.PartViews.{parts_view}
 use Rattle.type_constraints.proofs.report.+note.Given as goal

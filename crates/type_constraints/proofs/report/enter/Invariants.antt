@@ -1,8 +1,8 @@
 use Rattle.std.proofs.Common.{◌≡◌, ◌++◌, fold, map, take}
-use Rattle.reading_stages.specs.TypedTrees.{chosen}
-use Rattle.reading_stages.specs.TypesStage as stage
-use Rattle.reading_stages.specs.TypesStage.{type_noted}
-use Rattle.reading_stages.specs.Typing as typing
+use Rattle.stage_definitions.specs.TypedTrees.{chosen}
+use Rattle.stage_definitions.specs.TypesStage as stage
+use Rattle.stage_definitions.specs.TypesStage.{type_noted}
+use Rattle.stage_definitions.specs.Typing as typing
 use Rattle.type_constraints.specs.PartViews.{binding_view}
 use Rattle.type_constraints.proofs.report.enter.Given as goal
 

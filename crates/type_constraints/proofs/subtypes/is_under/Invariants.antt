@@ -1,6 +1,6 @@
 use Rattle.std.proofs.Common.{◌≡◌, ◌+◌, ℕ, length}
-use Rattle.reading_stages.specs.Below.{reaches, type_parents}
-use Rattle.reading_stages.specs.Kinship as kin
+use Rattle.stage_definitions.specs.Below.{reaches, type_parents}
+use Rattle.stage_definitions.specs.Kinship as kin
 use Rattle.type_constraints.proofs.subtypes.is_under.Given as goal
 
 abbrev pub invariant-loop-step : goal.invariant-loop-step

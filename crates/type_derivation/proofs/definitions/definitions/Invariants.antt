@@ -1,10 +1,10 @@
 use Rattle.std.proofs.Common.{◌≡◌, ◌++◌, fold, map, take}
 use Rattle.std.specs.List.{flat_map}
 use Rattle.kb_logic.specs.Views as view
-use Rattle.reading_stages.specs.TermPlaces.{rule_begins}
-use Rattle.reading_stages.specs.TypedFiles.{typed_definition}
-use Rattle.reading_stages.specs.TypesStage.{rule_type_uses, type_noted}
-use Rattle.reading_stages.specs.NamedViews.{definition_view}
+use Rattle.stage_definitions.specs.TermPlaces.{rule_begins}
+use Rattle.stage_definitions.specs.TypedFiles.{typed_definition}
+use Rattle.stage_definitions.specs.TypesStage.{rule_type_uses, type_noted}
+use Rattle.stage_definitions.specs.NamedViews.{definition_view}
 use Rattle.type_derivation.proofs.definitions.definitions.Given as goal
 
 abbrev pub invariant-loop-item : goal.invariant-loop-item

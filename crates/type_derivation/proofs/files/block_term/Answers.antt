@@ -1,8 +1,8 @@
 use Rattle.std.proofs.Common.{◌≡◌, ◌∙◌, sym, rules, IfOk}
 use Rattle.std.proofs.lemmas.Result.{IfOk-weaker}
 use Rattle.kb_logic.specs.Views as view
-use Rattle.reading_stages.specs.TypesStage.{block_settled}
-use Rattle.reading_stages.specs.NamedViews.{term_view}
+use Rattle.stage_definitions.specs.TypesStage.{block_settled}
+use Rattle.stage_definitions.specs.NamedViews.{term_view}
 use Rattle.type_constraints.specs.ChosenTypes.{types_among}
 use Rattle.type_derivation.specs.ListedTrees.{listed_term}
 use Rattle.type_derivation.proofs.RuleOrder.{types_are_in_order}

@@ -1,10 +1,10 @@
 use Rattle.std.proofs.Common.{◌≡◌, ◌++◌, [], fold, map, take}
 use Rattle.std.specs.List.{flat_map}
-use Rattle.reading_stages.specs.TermPlaces.{term_begins}
-use Rattle.reading_stages.specs.TypedFiles.{typed_block}
-use Rattle.reading_stages.specs.TypesStage as stage
-use Rattle.reading_stages.specs.TypesStage.{type_noted}
-use Rattle.reading_stages.specs.FileViews as named_view
+use Rattle.stage_definitions.specs.TermPlaces.{term_begins}
+use Rattle.stage_definitions.specs.TypedFiles.{typed_block}
+use Rattle.stage_definitions.specs.TypesStage as stage
+use Rattle.stage_definitions.specs.TypesStage.{type_noted}
+use Rattle.stage_definitions.specs.FileViews as named_view
 use Rattle.type_derivation.specs.TypedViews.{named_term_view}
 use Rattle.type_derivation.proofs.files.blocks.Given as goal
 

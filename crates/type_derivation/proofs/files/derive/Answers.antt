@@ -1,6 +1,6 @@
 use Rattle.std.proofs.Common.{◌≡◌, ◌∙◌, None, fold, sym}
-use Rattle.reading_stages.specs.TypesStage.{type_noted, type_uses_of_file}
-use Rattle.reading_stages.specs.FileViews.{kb_view}
+use Rattle.stage_definitions.specs.TypesStage.{type_noted, type_uses_of_file}
+use Rattle.stage_definitions.specs.FileViews.{kb_view}
 use Rattle.type_derivation.proofs.TypeRows.{earliest_refused, nothing_refused}
 use Rattle.type_derivation.proofs.files.derive.Goals as goal
 

@@ -1,7 +1,7 @@
 use Rattle.std.proofs.Common.{map}
 use Rattle.std.specs.List.{flat_map}
-use Rattle.reading_stages.specs.TypesStage.{type_noted, theory_type_uses, block_type_uses}
-use Rattle.reading_stages.specs.FileViews.{block_view, kb_view, theory_view}
+use Rattle.stage_definitions.specs.TypesStage.{type_noted, theory_type_uses, block_type_uses}
+use Rattle.stage_definitions.specs.FileViews.{block_view, kb_view, theory_view}
 use Rattle.type_derivation.proofs.Listed.{noted_both}
 use Rattle.type_derivation.proofs.files.derived.Goals as goal
 

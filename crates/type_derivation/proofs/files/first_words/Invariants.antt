@@ -1,5 +1,5 @@
 use Rattle.std.proofs.Common.{◌≡◌, map, take}
-use Rattle.reading_stages.specs.FileViews as named_view
+use Rattle.stage_definitions.specs.FileViews as named_view
 use Rattle.type_derivation.proofs.files.first_words.Given as goal
 
 abbrev pub invariant-loop-theory : goal.invariant-loop-theory

@@ -1,10 +1,10 @@
 use Rattle.std.proofs.Common.{◌≡◌, ◌++◌, fold, map, take}
 use Rattle.std.specs.List.{flat_map}
 use Rattle.kb_logic.specs.Views as view
-use Rattle.reading_stages.specs.TermPlaces.{terms_begin}
-use Rattle.reading_stages.specs.TypedTrees.{typed_sentence}
-use Rattle.reading_stages.specs.TypesStage.{sentence_type_uses, type_noted}
-use Rattle.reading_stages.specs.NamedViews.{formula_view}
+use Rattle.stage_definitions.specs.TermPlaces.{terms_begin}
+use Rattle.stage_definitions.specs.TypedTrees.{typed_sentence}
+use Rattle.stage_definitions.specs.TypesStage.{sentence_type_uses, type_noted}
+use Rattle.stage_definitions.specs.NamedViews.{formula_view}
 use Rattle.type_derivation.proofs.files.sentences.Given as goal
 
 abbrev pub invariant-loop-item : goal.invariant-loop-item

@@ -1,11 +1,11 @@
 use Rattle.std.proofs.Common.{◌≡◌, ◌++◌, ◌∷◌, [], arith, map}
 use Rattle.std.specs.List.{flat_map}
 use Rattle.std.proofs.lemmas.Grind.{common_steps}
-use Rattle.reading_stages.specs.Numbering.{NamedTheoryTree}
-use Rattle.reading_stages.specs.TypedFiles.{theory_begins, typed_theory}
-use Rattle.reading_stages.specs.TypesStage as stage
-use Rattle.reading_stages.specs.TypesStage.{type_noted}
-use Rattle.reading_stages.specs.FileViews as named_view
+use Rattle.stage_definitions.specs.Numbering.{NamedTheoryTree}
+use Rattle.stage_definitions.specs.TypedFiles.{theory_begins, typed_theory}
+use Rattle.stage_definitions.specs.TypesStage as stage
+use Rattle.stage_definitions.specs.TypesStage.{type_noted}
+use Rattle.stage_definitions.specs.FileViews as named_view
 use Rattle.type_derivation.specs.TypedViews.{named_theory_view}
 use Rattle.type_derivation.proofs.Listed.{made_next, listed_next, noted_next}
 use Rattle.type_derivation.proofs.files.theories.Goals as goal

@@ -1,9 +1,9 @@
 use Rattle.std.proofs.Common.{◌≡◌, ◌++◌, fold, map, take}
 use Rattle.std.specs.List.{flat_map}
-use Rattle.reading_stages.specs.TypedFiles.{theory_begins, typed_theory}
-use Rattle.reading_stages.specs.TypesStage as stage
-use Rattle.reading_stages.specs.TypesStage.{type_noted}
-use Rattle.reading_stages.specs.FileViews as named_view
+use Rattle.stage_definitions.specs.TypedFiles.{theory_begins, typed_theory}
+use Rattle.stage_definitions.specs.TypesStage as stage
+use Rattle.stage_definitions.specs.TypesStage.{type_noted}
+use Rattle.stage_definitions.specs.FileViews as named_view
 use Rattle.type_derivation.specs.TypedViews.{named_theory_view}
 use Rattle.type_derivation.proofs.files.theories.Given as goal
 

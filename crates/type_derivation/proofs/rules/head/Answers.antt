@@ -1,6 +1,6 @@
 use Rattle.std.proofs.Common.{map, option_map}
 use Rattle.kb_logic.specs.Views as view
-use Rattle.reading_stages.specs.NamedViews.{rule_view}
+use Rattle.stage_definitions.specs.NamedViews.{rule_view}
 use Rattle.type_derivation.proofs.HeadSteps.{head_built}
 use Rattle.type_derivation.proofs.rules.head.Goals as goal
 

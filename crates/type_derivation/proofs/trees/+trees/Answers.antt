@@ -1,9 +1,9 @@
 use Rattle.std.proofs.Common.{◌≡◌, ◌∙◌, ◌++◌, ◌∷◌, [], ◌+◌, arith, rules, ap, append_assoc, map, drop, Bool}
 use Rattle.std.proofs.lemmas.Grind.{common_steps}
 use Rattle.kb_logic.specs.Views as view
-use Rattle.reading_stages.specs.NamedTrees as named_tree
-use Rattle.reading_stages.specs.NamedViews.{formula_view, signed_view, term_view}
-use Rattle.reading_stages.specs.declared.named.NamedFormula.{the_lemmas}
+use Rattle.stage_definitions.specs.NamedTrees as named_tree
+use Rattle.stage_definitions.specs.NamedViews.{formula_view, signed_view, term_view}
+use Rattle.stage_definitions.specs.declared.named.NamedFormula.{the_lemmas}
 use Rattle.kb_logic.specs.declared.syntax.Formula.{the_lemmas as tree_lemmas}
 use Rattle.type_derivation.proofs.TreeSteps.{next_item, no_item, formulas_next, formulas_left, formulas_begun}
 use Rattle.type_derivation.proofs.TreeSteps.{formulas_built, terms_next, terms_left, terms_begun, terms_built}

@@ -1,8 +1,8 @@
 use Rattle.std.proofs.Common.{◌≡◌, ◌++◌, drop, map}
 use Rattle.kb_logic.specs.Views as view
-use Rattle.reading_stages.specs.NamedTrees as named_tree
-use Rattle.reading_stages.specs.TermPlaces.{each_begins, formulas_begin, summands_begin}
-use Rattle.reading_stages.specs.NamedViews.{formula_view, signed_view, term_view}
+use Rattle.stage_definitions.specs.NamedTrees as named_tree
+use Rattle.stage_definitions.specs.TermPlaces.{each_begins, formulas_begin, summands_begin}
+use Rattle.stage_definitions.specs.NamedViews.{formula_view, signed_view, term_view}
 use Rattle.type_derivation.specs.ListedTrees as listed
 use Rattle.type_derivation.specs.TreeLists.{then_formulas, then_terms, then_summands}
 use Rattle.type_derivation.proofs.trees.+trees.Given as goal

@@ -1,5 +1,5 @@
 use Rattle.std.proofs.Common.{◌≡◌, ◌++◌, drop, map}
-use Rattle.reading_stages.specs.NamedViews.{var_view}
+use Rattle.stage_definitions.specs.NamedViews.{var_view}
 use Rattle.type_derivation.specs.ListedTrees as listed
 use Rattle.type_derivation.proofs.trees.bound_vars.Given as goal
 

@@ -1,7 +1,7 @@
 use Rattle.std.proofs.Common.{◌≡◌, ◌∙◌, ℕ, ap, subst}
 use Rattle.kb_logic.specs.Bases.{Base}
 use Rattle.kb_logic.specs.KnownAtoms.{KnownAtoms}
-use Rattle.reading_stages.specs.FileBases.{base_of_file}
+use Rattle.stage_definitions.specs.FileBases.{base_of_file}
 use Rattle.type_derivation.specs.declared.typed.TypedKb.{TypedKb}
 use Rattle.type_derivation.specs.TypedViews.{typed_view}
 use Rattle.consult_base.specs.Opened.{Opened, base_of, IsKnowledgeBase}

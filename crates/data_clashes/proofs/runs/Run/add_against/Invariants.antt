@@ -1,5 +1,5 @@
 use Rattle.std.proofs.Common.{◌≡◌, ◌++◌, drop, map}
-use Rattle.data_entries.specs.EntryViews.{cell_view}
+use Rattle.structure_entries.specs.EntryViews.{cell_view}
 use Rattle.data_clashes.proofs.runs.Run.add_against.Given as goal
 
 abbrev pub invariant-loop-cell : goal.invariant-loop-cell

@@ -1,5 +1,5 @@
 use Rattle.std.proofs.Common.{◌≡◌, ◌++◌, drop, flat_map, map}
-use Rattle.data_entries.specs.EntryViews.{cell_view}
+use Rattle.structure_entries.specs.EntryViews.{cell_view}
 use Rattle.data_clashes.specs.RunViews.{run_against}
 use Rattle.data_clashes.proofs.runs.Runs.add_over.Given as goal
 

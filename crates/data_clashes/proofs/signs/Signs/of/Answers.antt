@@ -1,6 +1,6 @@
 use Rattle.std.proofs.Common.{true, false}
 use Rattle.std.proofs.lemmas.List.{drop_all}
-use Rattle.data_entries.proofs.Dropped.{front}
+use Rattle.structure_entries.proofs.Dropped.{front}
 use Rattle.data_clashes.specs.Signs.{may_say}
 use Rattle.data_clashes.proofs.Opposable.{last_sign, next_sign}
 use Rattle.data_clashes.proofs.signs.Signs.of.Goals as goal

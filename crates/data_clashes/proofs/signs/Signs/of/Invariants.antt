@@ -1,6 +1,6 @@
 use Rattle.std.proofs.Common.{◌≡◌, ◌||◌, ℕ, true, false, drop, map}
 use Rattle.std.specs.List.{list_any}
-use Rattle.data_entries.specs.SaidViews.{said_view}
+use Rattle.structure_entries.specs.SaidViews.{said_view}
 use Rattle.data_clashes.specs.Signs.{may_say}
 use Rattle.data_clashes.specs.Tables.{is_wide}
 use Rattle.data_clashes.proofs.signs.Signs.of.Given as goal

@@ -1,6 +1,6 @@
 use Rattle.std.proofs.Common.{ap}
 use Rattle.std.specs.Option.{option_map}
-use Rattle.data_entries.specs.EntryViews.{cell_view, elem_view, fact_view}
+use Rattle.structure_entries.specs.EntryViews.{cell_view, elem_view, fact_view}
 use Rattle.data_clashes.proofs.OpposingFacts.{met}
 use Rattle.data_clashes.proofs.singles.Singles.do_clash.Goals as goal
 

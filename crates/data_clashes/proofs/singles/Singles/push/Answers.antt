@@ -1,5 +1,5 @@
 use Rattle.std.proofs.Common.{refl}
-use Rattle.data_entries.specs.EntryViews.{fact_view}
+use Rattle.structure_entries.specs.EntryViews.{fact_view}
 use Rattle.data_clashes.proofs.OpposingFacts.{kept_by, pushed}
 use Rattle.data_clashes.proofs.singles.Singles.push.Goals as goal
 

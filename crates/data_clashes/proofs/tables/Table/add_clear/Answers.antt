@@ -1,6 +1,6 @@
 use Rattle.std.proofs.Common.{◌≡◌, ◌∙◌, true, ap, rules}
-use Rattle.data_entries.specs.EntryViews.{fact_view}
-use Rattle.data_notes.specs.Labels.{tuple_view}
+use Rattle.structure_entries.specs.EntryViews.{fact_view}
+use Rattle.data_refusals.specs.Labels.{tuple_view}
 use Rattle.data_clashes.specs.Tables.{is_denied, value_in}
 use Rattle.data_clashes.proofs.Kept.{clear_by, clear_of}
 use Rattle.data_clashes.proofs.tables.Table.add_clear.Goals as goal

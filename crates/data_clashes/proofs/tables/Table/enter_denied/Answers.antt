@@ -1,5 +1,5 @@
 use Rattle.std.specs.Option.{option_map}
-use Rattle.data_notes.specs.Labels.{label_view, tuple_view}
+use Rattle.data_refusals.specs.Labels.{label_view, tuple_view}
 use Rattle.data_clashes.specs.Tables.{is_atom}
 use Rattle.data_clashes.specs.contracts.keys.KeyPartialEq.TheImpl.{ghosts as key_equality}
 use Rattle.data_clashes.proofs.Kept.{among_now}

@@ -1,6 +1,6 @@
 use Rattle.std.proofs.Common.{◌≡◌, ◌++◌, ◌∷◌, [], ◌∙◌, ap}
 use Rattle.indexmap.proofs.CallerLemmas.{insert_entry-new}
-use Rattle.data_notes.specs.Labels.{tuple_view}
+use Rattle.data_refusals.specs.Labels.{tuple_view}
 use Rattle.data_clashes.specs.Tables.{value_in}
 use Rattle.data_clashes.specs.contracts.keys.KeyPartialEq.TheImpl.{ghosts as key_equality}
 use Rattle.data_clashes.proofs.Kept.{still_kept}

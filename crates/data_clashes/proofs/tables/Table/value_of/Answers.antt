@@ -1,7 +1,7 @@
 use Rattle.std.proofs.Common.{◌∙◌, ap, Option}
 use Rattle.std.specs.Option.{option_map}
-use Rattle.data_notes.specs.Labels.{label_view}
-use Rattle.data_notes.specs.declared.labels.Label.{Label}
+use Rattle.data_refusals.specs.Labels.{label_view}
+use Rattle.data_refusals.specs.declared.labels.Label.{Label}
 use Rattle.data_clashes.proofs.KeyLemmas.{looked_up}
 use Rattle.data_clashes.proofs.tables.Table.value_of.Goals as goal
 

@@ -1,7 +1,7 @@
 use Rattle.std.proofs.Common.{◌∷◌, [], ◌∙◌, map, refl, sym, ap}
 use Rattle.std.proofs.lemmas.List.{map-append}
-use Rattle.reading_stages.specs.Elements.{listed}
-use Rattle.data_entries.specs.EntryViews.{cell_view}
+use Rattle.stage_definitions.specs.Elements.{listed}
+use Rattle.structure_entries.specs.EntryViews.{cell_view}
 use Rattle.data_domains.proofs.Filled.{cell_more}
 use Rattle.data_domains.proofs.types.TypeData.add.Goals as goal
 

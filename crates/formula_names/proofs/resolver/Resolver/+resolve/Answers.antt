@@ -2,27 +2,27 @@ use Rattle.std.proofs.Common.{◌≡◌, ◌<◌, ◌∷◌, ◌++◌, [], List,
 use Rattle.std.proofs.lemmas.Grind.{common_steps, fold-append}
 use Rattle.std.proofs.lemmas.Result.{IfOk-weaker}
 use Rattle.std.proofs.Math.Seq.{take-append_seam}
-use Rattle.fo_syntax.specs.Trees as raw
-use Rattle.fo_syntax.specs.View as view
-use Rattle.fo_syntax.specs.declared.raw.RawApp.{the_lemmas}
-use Rattle.fo_syntax.specs.declared.raw.RawLink.{out-RawLink}
-use Rattle.fo_syntax.specs.declared.raw.RawOrTail.{out-RawOrTail}
-use Rattle.fo_syntax.specs.declared.raw.RawAndTail.{out-RawAndTail}
-use Rattle.fo_syntax.specs.declared.raw.RawSumTail.{out-RawSumTail}
-use Rattle.fo_syntax.specs.declared.raw.RawProductTail.{out-RawProductTail}
-use Rattle.fo_syntax.specs.declared.raw.RawTermsTail.{out-RawTermsTail}
-use Rattle.fo_syntax.specs.declared.raw.RawOr.{out-RawOr}
-use Rattle.fo_syntax.specs.declared.raw.RawAnd.{out-RawAnd}
-use Rattle.fo_syntax.specs.declared.raw.RawTermTree.{out-RawTermTree}
-use Rattle.fo_syntax.specs.declared.raw.RawProduct.{out-RawProduct}
-use Rattle.fo_syntax.specs.declared.raw.RawTerms.{out-RawTerms}
-use Rattle.reading_stages.specs.NamedTrees as tree
-use Rattle.reading_stages.specs.NamedViews.{formula_view, term_view, signed_view}
-use Rattle.reading_stages.specs.NamesStage.{name_noted}
-use Rattle.reading_stages.specs.Numbering.{grouped, named_links, named_formula, named_or, named_and, named_unary}
-use Rattle.reading_stages.specs.Numbering.{named_product, named_factor, named_term, is_minus}
-use Rattle.reading_stages.specs.Uses.{an_aggregate, inside, uses_in, uses_of_vars, vars_in}
-use Rattle.reading_stages.specs.declared.named.NamedFormula.{the_lemmas as named_lemmas}
+use Rattle.grammar.specs.Trees as raw
+use Rattle.grammar.specs.View as view
+use Rattle.grammar.specs.declared.raw.RawApp.{the_lemmas}
+use Rattle.grammar.specs.declared.raw.RawLink.{out-RawLink}
+use Rattle.grammar.specs.declared.raw.RawOrTail.{out-RawOrTail}
+use Rattle.grammar.specs.declared.raw.RawAndTail.{out-RawAndTail}
+use Rattle.grammar.specs.declared.raw.RawSumTail.{out-RawSumTail}
+use Rattle.grammar.specs.declared.raw.RawProductTail.{out-RawProductTail}
+use Rattle.grammar.specs.declared.raw.RawTermsTail.{out-RawTermsTail}
+use Rattle.grammar.specs.declared.raw.RawOr.{out-RawOr}
+use Rattle.grammar.specs.declared.raw.RawAnd.{out-RawAnd}
+use Rattle.grammar.specs.declared.raw.RawTermTree.{out-RawTermTree}
+use Rattle.grammar.specs.declared.raw.RawProduct.{out-RawProduct}
+use Rattle.grammar.specs.declared.raw.RawTerms.{out-RawTerms}
+use Rattle.stage_definitions.specs.NamedTrees as tree
+use Rattle.stage_definitions.specs.NamedViews.{formula_view, term_view, signed_view}
+use Rattle.stage_definitions.specs.NamesStage.{name_noted}
+use Rattle.stage_definitions.specs.Numbering.{grouped, named_links, named_formula, named_or, named_and, named_unary}
+use Rattle.stage_definitions.specs.Numbering.{named_product, named_factor, named_term, is_minus}
+use Rattle.stage_definitions.specs.Uses.{an_aggregate, inside, uses_in, uses_of_vars, vars_in}
+use Rattle.stage_definitions.specs.declared.named.NamedFormula.{the_lemmas as named_lemmas}
 use Rattle.formula_names.specs.Steps.{context_of, names_known}
 use Rattle.formula_names.proofs.Chains.{uses_in_or-is, uses_in_and-is, uses_in_term-is, uses_in_product-is}
 use Rattle.formula_names.proofs.Chains.{uses_in_terms-is, named_terms-is, named_links-is, uses_in_links-is}

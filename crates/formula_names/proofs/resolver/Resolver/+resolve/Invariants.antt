@@ -1,7 +1,7 @@
 use Rattle.std.proofs.Common.{take, map}
-use Rattle.fo_syntax.specs.View.{link_view, or_tail_view, and_tail_view, sum_tail_view, product_tail_view}
-use Rattle.fo_syntax.specs.View.{terms_tail_view}
-use Rattle.reading_stages.specs.NamedViews.{formula_view, term_view, signed_view}
+use Rattle.grammar.specs.View.{link_view, or_tail_view, and_tail_view, sum_tail_view, product_tail_view}
+use Rattle.grammar.specs.View.{terms_tail_view}
+use Rattle.stage_definitions.specs.NamedViews.{formula_view, term_view, signed_view}
 use Rattle.formula_names.proofs.Operands.{link_named, link_uses, disjunct_named, disjunct_uses, conjunct_named}
 use Rattle.formula_names.proofs.Operands.{conjunct_uses, summand_named, summand_uses, factor_named, factor_uses}
 use Rattle.formula_names.proofs.Operands.{argument_named, argument_uses}

@@ -1,10 +1,10 @@
 use Rattle.std.proofs.Common.{◌≡◌, ◌∷◌, ◌++◌, ◌∙◌, [], map, arith, fold, drop, length}
 use Rattle.std.proofs.lemmas.Grind.{common_steps}
-use Rattle.fo_syntax.specs.View.{var_view, vars_view}
-use Rattle.reading_stages.specs.NamedViews as named
-use Rattle.reading_stages.specs.NamesStage.{name_noted}
-use Rattle.reading_stages.specs.Numbering.{named_var}
-use Rattle.reading_stages.specs.Uses.{bound, position_uses, uses_of_vars, var_name, var_type}
+use Rattle.grammar.specs.View.{var_view, vars_view}
+use Rattle.stage_definitions.specs.NamedViews as named
+use Rattle.stage_definitions.specs.NamesStage.{name_noted}
+use Rattle.stage_definitions.specs.Numbering.{named_var}
+use Rattle.stage_definitions.specs.Uses.{bound, position_uses, uses_of_vars, var_name, var_type}
 use Rattle.formula_names.specs.Steps.{names_known}
 use Rattle.formula_names.specs.Tails.{tail_var}
 use Rattle.formula_names.proofs.Chains.{binders_vars, binders_scope, binders_noted}

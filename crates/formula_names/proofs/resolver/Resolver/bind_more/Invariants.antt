@@ -1,8 +1,8 @@
 use Rattle.std.proofs.Common.{◌≡◌, ◌≤◌, ◌++◌, drop, fold, length, map}
-use Rattle.reading_stages.specs.NamesStage.{name_noted}
-use Rattle.reading_stages.specs.NamedViews.{var_view}
-use Rattle.reading_stages.specs.Numbering.{named_var}
-use Rattle.reading_stages.specs.Uses.{uses_of_vars, var_text}
+use Rattle.stage_definitions.specs.NamesStage.{name_noted}
+use Rattle.stage_definitions.specs.NamedViews.{var_view}
+use Rattle.stage_definitions.specs.Numbering.{named_var}
+use Rattle.stage_definitions.specs.Uses.{uses_of_vars, var_text}
 use Rattle.formula_names.specs.Steps.{names_known}
 use Rattle.formula_names.specs.Tails.{tail_var}
 use Rattle.formula_names.proofs.resolver.Resolver.bind_more.Given as goal

@@ -1,6 +1,6 @@
 use Rattle.std.proofs.lemmas.Result.{err_from_is_err_and}
-use Rattle.fo_syntax.specs.Terminals.{toks}
-use Rattle.fo_syntax.specs.View.{formula_view, term_view, vars_view}
+use Rattle.grammar.specs.Terminals.{toks}
+use Rattle.grammar.specs.View.{formula_view, term_view, vars_view}
 use Rattle.formula_reader.specs.Results.{opening_view}
 use Rattle.token_reader.proofs.Inside.{fails_in}
 use Rattle.formula_reader.proofs.InFactors.{in_fold_opening, in_fold_formula, fold_is}

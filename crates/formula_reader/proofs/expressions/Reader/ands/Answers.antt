@@ -1,6 +1,6 @@
 use Rattle.std.proofs.Common.{map}
 use Rattle.std.proofs.lemmas.Result.{err_from_is_err_and}
-use Rattle.fo_syntax.specs.View.{unary_view, and_tail_view}
+use Rattle.grammar.specs.View.{unary_view, and_tail_view}
 use Rattle.formula_reader.proofs.InChains.{ands_first, and_kind}
 use Rattle.formula_reader.proofs.expressions.Reader.ands.Goals as goal
 

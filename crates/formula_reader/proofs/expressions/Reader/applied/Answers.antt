@@ -1,8 +1,8 @@
 use Rattle.std.proofs.Common.{refl}
-use Rattle.fo_syntax.specs.Terminals.{toks}
-use Rattle.fo_syntax.specs.Trees.{atom, value}
-use Rattle.fo_syntax.specs.Spelling.{put_prim, put_factor}
-use Rattle.fo_syntax.specs.View.{app_view}
+use Rattle.grammar.specs.Terminals.{toks}
+use Rattle.grammar.specs.Trees.{atom, value}
+use Rattle.grammar.specs.Spelling.{put_prim, put_factor}
+use Rattle.grammar.specs.View.{app_view}
 use Rattle.formula_reader.specs.Results.{wrap_prim, wrap_factor}
 use Rattle.formula_reader.proofs.InOperands.{wrapped_put, operand_from}
 use Rattle.formula_reader.proofs.expressions.Reader.applied.Goals as goal

@@ -1,9 +1,9 @@
 use Rattle.std.proofs.Common.{◌∙◌, List, ap, subst, sym}
 use Rattle.std.proofs.lemmas.Result.{err_from_is_err_and}
-use Rattle.fo_syntax.specs.Terminals.{Tok}
-use Rattle.fo_syntax.specs.Spelling.{put_app, put_name}
-use Rattle.fo_syntax.specs.Fine.{FineApp}
-use Rattle.fo_syntax.specs.View.{name_view}
+use Rattle.grammar.specs.Terminals.{Tok}
+use Rattle.grammar.specs.Spelling.{put_app, put_name}
+use Rattle.grammar.specs.Fine.{FineApp}
+use Rattle.grammar.specs.View.{name_view}
 use Rattle.token_reader.specs.Parts.{at_either, Fails}
 use Rattle.formula_reader.proofs.expressions.Reader.arguments.Goals as goal
 

@@ -1,6 +1,6 @@
 use Rattle.std.proofs.lemmas.Result.{err_from_is_err_and}
-use Rattle.fo_syntax.specs.Terminals.{toks}
-use Rattle.fo_syntax.specs.View.{factor_view}
+use Rattle.grammar.specs.Terminals.{toks}
+use Rattle.grammar.specs.View.{factor_view}
 use Rattle.token_reader.proofs.Inside.{fails_in}
 use Rattle.formula_reader.proofs.InFactors.{in_minuses, factor_unsealed, factor_ends}
 use Rattle.formula_reader.proofs.expressions.Reader.bare.Goals as goal

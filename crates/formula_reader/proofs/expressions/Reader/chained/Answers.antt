@@ -1,8 +1,8 @@
 use Rattle.std.proofs.Common.{◌∷◌, [], true, refl}
 use Rattle.std.proofs.lemmas.Result.{err_from_is_err_and}
-use Rattle.fo_syntax.specs.declared.terminal.Terminal.TheVariants as t
-use Rattle.fo_syntax.specs.Terminals.{toks, sign}
-use Rattle.fo_syntax.specs.View.{or_view, link_view}
+use Rattle.grammar.specs.declared.terminal.Terminal.TheVariants as t
+use Rattle.grammar.specs.Terminals.{toks, sign}
+use Rattle.grammar.specs.View.{or_view, link_view}
 use Rattle.token_reader.proofs.Inside.{fails_in}
 use Rattle.formula_reader.proofs.InChains.{links_first, links_more, in_links}
 use Rattle.formula_reader.proofs.expressions.Reader.chained.Goals as goal

@@ -1,7 +1,7 @@
 use Rattle.std.proofs.lemmas.Result.{err_from_is_err_and}
-use Rattle.fo_syntax.specs.Terminals.{toks}
-use Rattle.fo_syntax.specs.Spelling.{put_unary}
-use Rattle.fo_syntax.specs.View.{unary_view}
+use Rattle.grammar.specs.Terminals.{toks}
+use Rattle.grammar.specs.Spelling.{put_unary}
+use Rattle.grammar.specs.View.{unary_view}
 use Rattle.token_reader.proofs.Inside.{fails_in}
 use Rattle.formula_reader.proofs.InChains.{unary_here, first_unary, conjunction_read}
 use Rattle.formula_reader.proofs.expressions.Reader.conjunction.Goals as goal

@@ -1,10 +1,10 @@
 use Rattle.std.proofs.Common.{◌∷◌}
 use Rattle.std.proofs.lemmas.Result.{err_from_is_err_and}
-use Rattle.fo_syntax.specs.declared.terminal.Terminal.TheVariants as t
-use Rattle.fo_syntax.specs.Terminals.{toks, sign}
-use Rattle.fo_syntax.specs.Trees.{brackets}
-use Rattle.fo_syntax.specs.Spelling.{put_factor}
-use Rattle.fo_syntax.specs.View.{formula_view, term_view, app_view}
+use Rattle.grammar.specs.declared.terminal.Terminal.TheVariants as t
+use Rattle.grammar.specs.Terminals.{toks, sign}
+use Rattle.grammar.specs.Trees.{brackets}
+use Rattle.grammar.specs.Spelling.{put_factor}
+use Rattle.grammar.specs.View.{formula_view, term_view, app_view}
 use Rattle.formula_reader.proofs.InOperands.{group_is, brackets_put, wraps_put, operand_from}
 use Rattle.formula_reader.proofs.expressions.Reader.enclosed.Goals as goal
 

@@ -1,8 +1,8 @@
 use Rattle.std.proofs.Common.{◌∷◌, List, ap, refl}
 use Rattle.std.proofs.lemmas.Result.{err_from_is_err_and}
-use Rattle.fo_syntax.specs.declared.terminal.Terminal.TheVariants as t
-use Rattle.fo_syntax.specs.Terminals.{Tok, toks, sign}
-use Rattle.fo_syntax.specs.View.{term_view}
+use Rattle.grammar.specs.declared.terminal.Terminal.TheVariants as t
+use Rattle.grammar.specs.Terminals.{Tok, toks, sign}
+use Rattle.grammar.specs.View.{term_view}
 use Rattle.token_reader.proofs.Inside.{fails_in}
 use Rattle.formula_reader.proofs.InTerms.{in_arguments}
 use Rattle.formula_reader.proofs.expressions.Reader.listed.Goals as goal

@@ -1,8 +1,8 @@
 use Rattle.std.proofs.Common.{arith, map}
 use Rattle.std.proofs.lemmas.Result.{err_from_is_err_and}
 use Rattle.std.proofs.lemmas.List.{map_push}
-use Rattle.fo_syntax.specs.Terminals.{toks}
-use Rattle.fo_syntax.specs.View.{and_tail_view, and_of}
+use Rattle.grammar.specs.Terminals.{toks}
+use Rattle.grammar.specs.View.{and_tail_view, and_of}
 use Rattle.token_reader.proofs.Inside.{fails_in}
 use Rattle.formula_reader.proofs.InChains.{ands_more, ands_are, in_ands}
 use Rattle.formula_reader.proofs.expressions.Reader.more_ands.Goals as goal

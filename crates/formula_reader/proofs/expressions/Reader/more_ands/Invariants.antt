@@ -1,7 +1,7 @@
 use Rattle.std.proofs.Common.{◌≤◌, List, length, map}
-use Rattle.fo_syntax.specs.Terminals.{Tok, toks}
-use Rattle.fo_syntax.specs.Trees.{Unary}
-use Rattle.fo_syntax.specs.View.{and_tail_view, and_of}
+use Rattle.grammar.specs.Terminals.{Tok, toks}
+use Rattle.grammar.specs.Trees.{Unary}
+use Rattle.grammar.specs.View.{and_tail_view, and_of}
 use Rattle.formula_reader.specs.Chains.{AndsAre}
 use Rattle.formula_reader.proofs.expressions.Reader.more_ands.Given as goal
 

@@ -1,9 +1,9 @@
 use Rattle.std.proofs.Common.{◌∙◌, List, ap, arith, map}
 use Rattle.std.proofs.lemmas.Result.{err_from_is_err_and}
 use Rattle.std.proofs.lemmas.List.{map_push}
-use Rattle.fo_syntax.specs.Terminals.{Tok, toks}
-use Rattle.fo_syntax.specs.Spelling.{put_product}
-use Rattle.fo_syntax.specs.View.{product_tail_view, product_of}
+use Rattle.grammar.specs.Terminals.{Tok, toks}
+use Rattle.grammar.specs.Spelling.{put_product}
+use Rattle.grammar.specs.View.{product_tail_view, product_of}
 use Rattle.token_reader.proofs.Inside.{fails_in}
 use Rattle.formula_reader.proofs.InTerms.{in_product, product_step, product_push_fine}
 use Rattle.formula_reader.proofs.expressions.Reader.more_factors.Goals as goal

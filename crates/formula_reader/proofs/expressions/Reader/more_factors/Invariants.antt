@@ -1,10 +1,10 @@
 use Rattle.std.proofs.Common.{◌≡◌, ◌≤◌, List, length, map}
-use Rattle.fo_syntax.specs.Terminals.{Tok, toks}
-use Rattle.fo_syntax.specs.Trees.{Factor}
-use Rattle.fo_syntax.specs.Spelling.{put_product}
-use Rattle.fo_syntax.specs.Fine.{FineProduct}
+use Rattle.grammar.specs.Terminals.{Tok, toks}
+use Rattle.grammar.specs.Trees.{Factor}
+use Rattle.grammar.specs.Spelling.{put_product}
+use Rattle.grammar.specs.Fine.{FineProduct}
 use Rattle.token_reader.specs.Parts.{EndsFactor}
-use Rattle.fo_syntax.specs.View.{product_tail_view, product_of}
+use Rattle.grammar.specs.View.{product_tail_view, product_of}
 use Rattle.formula_reader.proofs.expressions.Reader.more_factors.Given as goal
 
 abbrev pub invariant-loop-place : goal.invariant-loop-place

@@ -1,9 +1,9 @@
 use Rattle.std.proofs.Common.{◌∷◌, arith, map}
 use Rattle.std.proofs.lemmas.Result.{err_from_is_err_and}
 use Rattle.std.proofs.lemmas.List.{map_push}
-use Rattle.fo_syntax.specs.Terminals.{toks}
+use Rattle.grammar.specs.Terminals.{toks}
 use Rattle.token_reader.specs.Machine.{fresh, unsettled}
-use Rattle.fo_syntax.specs.View.{link_view}
+use Rattle.grammar.specs.View.{link_view}
 use Rattle.token_reader.proofs.Inside.{fails_in}
 use Rattle.formula_reader.proofs.InChains.{links_more, linked_is, in_links}
 use Rattle.formula_reader.proofs.expressions.Reader.more_links.Goals as goal

@@ -1,7 +1,7 @@
 use Rattle.std.proofs.Common.{◌≤◌, ◌∷◌, ℕ, List, length, map}
-use Rattle.fo_syntax.specs.Terminals.{Tok, toks}
-use Rattle.fo_syntax.specs.Trees.{Or}
-use Rattle.fo_syntax.specs.View.{link_view, formula_of}
+use Rattle.grammar.specs.Terminals.{Tok, toks}
+use Rattle.grammar.specs.Trees.{Or}
+use Rattle.grammar.specs.View.{link_view, formula_of}
 use Rattle.formula_reader.specs.Chains.{LinksAre}
 use Rattle.formula_reader.proofs.expressions.Reader.more_links.Given as goal
 

@@ -1,7 +1,7 @@
 use Rattle.std.proofs.Common.{◌≤◌, List, length, map}
-use Rattle.fo_syntax.specs.Terminals.{Tok, toks}
-use Rattle.fo_syntax.specs.Trees.{And}
-use Rattle.fo_syntax.specs.View.{or_tail_view, or_of}
+use Rattle.grammar.specs.Terminals.{Tok, toks}
+use Rattle.grammar.specs.Trees.{And}
+use Rattle.grammar.specs.View.{or_tail_view, or_of}
 use Rattle.formula_reader.specs.Chains.{OrsAre}
 use Rattle.formula_reader.proofs.expressions.Reader.more_ors.Given as goal
 

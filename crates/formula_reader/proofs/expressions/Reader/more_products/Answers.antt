@@ -1,9 +1,9 @@
 use Rattle.std.proofs.Common.{◌∙◌, List, ap, arith, map}
 use Rattle.std.proofs.lemmas.Result.{err_from_is_err_and}
 use Rattle.std.proofs.lemmas.List.{map_push}
-use Rattle.fo_syntax.specs.Terminals.{Tok, toks}
-use Rattle.fo_syntax.specs.Spelling.{put_term}
-use Rattle.fo_syntax.specs.View.{factor_view, sum_tail_view, term_of}
+use Rattle.grammar.specs.Terminals.{Tok, toks}
+use Rattle.grammar.specs.Spelling.{put_term}
+use Rattle.grammar.specs.View.{factor_view, sum_tail_view, term_of}
 use Rattle.token_reader.proofs.Inside.{fails_in}
 use Rattle.formula_reader.proofs.InTerms.{in_sum, in_summand, term_step, term_push_fine, sum_ends}
 use Rattle.formula_reader.proofs.expressions.Reader.more_products.Goals as goal

@@ -1,12 +1,12 @@
 use Rattle.std.proofs.Common.{◌≡◌, ◌≤◌, List, length, map}
-use Rattle.fo_syntax.specs.Terminals.{Tok, toks}
-use Rattle.fo_syntax.specs.Trees.{Product}
-use Rattle.fo_syntax.specs.Spelling.{put_term}
-use Rattle.fo_syntax.specs.Fine.{FineTerm}
-use Rattle.fo_syntax.specs.declared.terminal.Terminal.TheVariants as t
+use Rattle.grammar.specs.Terminals.{Tok, toks}
+use Rattle.grammar.specs.Trees.{Product}
+use Rattle.grammar.specs.Spelling.{put_term}
+use Rattle.grammar.specs.Fine.{FineTerm}
+use Rattle.grammar.specs.declared.terminal.Terminal.TheVariants as t
 use Rattle.token_reader.specs.Signs.{next, No}
 use Rattle.token_reader.specs.Parts.{EndsFactor}
-use Rattle.fo_syntax.specs.View.{sum_tail_view, term_of}
+use Rattle.grammar.specs.View.{sum_tail_view, term_of}
 use Rattle.formula_reader.proofs.expressions.Reader.more_products.Given as goal
 
 abbrev pub invariant-loop-sign : goal.invariant-loop-sign

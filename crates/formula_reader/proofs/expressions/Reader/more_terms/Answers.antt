@@ -1,10 +1,10 @@
 use Rattle.std.proofs.Common.{◌∷◌, ◌∙◌, List, ap, arith, map}
 use Rattle.std.proofs.lemmas.Result.{err_from_is_err_and}
 use Rattle.std.proofs.lemmas.List.{map_push}
-use Rattle.fo_syntax.specs.declared.terminal.Terminal.TheVariants as t
-use Rattle.fo_syntax.specs.Terminals.{Tok, toks, sign}
-use Rattle.fo_syntax.specs.Spelling.{put_terms}
-use Rattle.fo_syntax.specs.View.{terms_tail_view, terms_of}
+use Rattle.grammar.specs.declared.terminal.Terminal.TheVariants as t
+use Rattle.grammar.specs.Terminals.{Tok, toks, sign}
+use Rattle.grammar.specs.Spelling.{put_terms}
+use Rattle.grammar.specs.View.{terms_tail_view, terms_of}
 use Rattle.token_reader.proofs.Inside.{fails_in}
 use Rattle.formula_reader.proofs.InTerms.{in_further, closed_arguments, terms_step, terms_push_fine}
 use Rattle.formula_reader.proofs.expressions.Reader.more_terms.Goals as goal

@@ -1,11 +1,11 @@
 use Rattle.std.proofs.Common.{◌≡◌, ◌∷◌, ◌≤◌, ℕ, List, length, map}
-use Rattle.fo_syntax.specs.declared.terminal.Terminal.TheVariants as t
-use Rattle.fo_syntax.specs.Terminals.{Tok, toks, sign}
-use Rattle.fo_syntax.specs.Trees.{Term}
-use Rattle.fo_syntax.specs.Spelling.{put_terms}
-use Rattle.fo_syntax.specs.Fine.{FineTerms}
+use Rattle.grammar.specs.declared.terminal.Terminal.TheVariants as t
+use Rattle.grammar.specs.Terminals.{Tok, toks, sign}
+use Rattle.grammar.specs.Trees.{Term}
+use Rattle.grammar.specs.Spelling.{put_terms}
+use Rattle.grammar.specs.Fine.{FineTerms}
 use Rattle.token_reader.specs.Parts.{EndsTerm}
-use Rattle.fo_syntax.specs.View.{terms_tail_view, terms_of}
+use Rattle.grammar.specs.View.{terms_tail_view, terms_of}
 use Rattle.formula_reader.proofs.expressions.Reader.more_terms.Given as goal
 
 abbrev pub invariant-loop-place : goal.invariant-loop-place

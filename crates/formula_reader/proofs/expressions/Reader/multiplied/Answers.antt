@@ -1,8 +1,8 @@
 use Rattle.std.proofs.Common.{refl}
 use Rattle.std.proofs.lemmas.Result.{err_from_is_err_and}
-use Rattle.fo_syntax.specs.Terminals.{toks}
-use Rattle.fo_syntax.specs.Spelling.{put_factor}
-use Rattle.fo_syntax.specs.View.{factor_view}
+use Rattle.grammar.specs.Terminals.{toks}
+use Rattle.grammar.specs.Spelling.{put_factor}
+use Rattle.grammar.specs.View.{factor_view}
 use Rattle.formula_reader.proofs.expressions.Reader.multiplied.Goals as goal
 
 pub returns-in_err-rest-clause-reads : goal.returns-in_err-rest-clause-reads

@@ -1,8 +1,8 @@
 use Rattle.std.proofs.Common.{map}
 use Rattle.std.proofs.lemmas.Result.{err_from_is_err_and}
-use Rattle.fo_syntax.specs.Terminals.{toks}
-use Rattle.fo_syntax.specs.Spelling.{put_unary}
-use Rattle.fo_syntax.specs.View.{unary_view, and_view, or_tail_view}
+use Rattle.grammar.specs.Terminals.{toks}
+use Rattle.grammar.specs.Spelling.{put_unary}
+use Rattle.grammar.specs.View.{unary_view, and_view, or_tail_view}
 use Rattle.token_reader.proofs.Inside.{fails_in}
 use Rattle.formula_reader.proofs.InChains.{ors_first, or_kind, first_and}
 use Rattle.formula_reader.proofs.expressions.Reader.ors.Goals as goal

@@ -1,6 +1,6 @@
 use Rattle.std.proofs.Common.{refl}
 use Rattle.std.proofs.lemmas.Result.{err_from_is_err_and}
-use Rattle.fo_syntax.specs.Terminals.{toks}
+use Rattle.grammar.specs.Terminals.{toks}
 use Rattle.formula_reader.proofs.InOperands.{nothing_only, terms_only, operand_from, truth_is, truth_unsealed}
 use Rattle.formula_reader.proofs.expressions.Reader.plain.Goals as goal
 

@@ -1,7 +1,7 @@
 use Rattle.std.proofs.lemmas.Result.{err_from_is_err_and}
-use Rattle.fo_syntax.specs.Terminals.{toks}
-use Rattle.fo_syntax.specs.Spelling.{put_factor}
-use Rattle.fo_syntax.specs.View.{factor_view, product_view}
+use Rattle.grammar.specs.Terminals.{toks}
+use Rattle.grammar.specs.Spelling.{put_factor}
+use Rattle.grammar.specs.View.{factor_view, product_view}
 use Rattle.token_reader.proofs.Inside.{fails_in}
 use Rattle.formula_reader.proofs.InTerms.{first_product}
 use Rattle.formula_reader.proofs.expressions.Reader.summed.Goals as goal

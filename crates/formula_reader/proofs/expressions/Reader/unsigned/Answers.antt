@@ -1,4 +1,4 @@
-use Rattle.fo_syntax.specs.Terminals.{toks}
+use Rattle.grammar.specs.Terminals.{toks}
 use Rattle.formula_reader.proofs.InFactors.{factor_none, factor_other, unsigned_from}
 use Rattle.formula_reader.proofs.expressions.Reader.unsigned.Goals as goal
 

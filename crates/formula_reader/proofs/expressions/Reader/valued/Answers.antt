@@ -1,9 +1,9 @@
 use Rattle.std.proofs.Common.{◌≡◌, ◌∷◌, ap, sym}
 use Rattle.std.proofs.lemmas.Result.{err_from_is_err_and}
-use Rattle.fo_syntax.specs.Terminals.{toks, tok_at, word}
-use Rattle.fo_syntax.specs.Trees.{Name}
-use Rattle.fo_syntax.specs.Spelling.{put_name}
-use Rattle.fo_syntax.specs.View.{name_view}
+use Rattle.grammar.specs.Terminals.{toks, tok_at, word}
+use Rattle.grammar.specs.Trees.{Name}
+use Rattle.grammar.specs.Spelling.{put_name}
+use Rattle.grammar.specs.View.{name_view}
 use Rattle.token_reader.proofs.Inside.{fails_in}
 use Rattle.formula_reader.proofs.InFactors.{in_value}
 use Rattle.formula_reader.proofs.expressions.Reader.valued.Goals as goal

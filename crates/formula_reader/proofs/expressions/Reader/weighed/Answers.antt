@@ -1,6 +1,6 @@
 use Rattle.std.proofs.lemmas.Result.{err_from_is_err_and}
-use Rattle.fo_syntax.specs.Terminals.{toks}
-use Rattle.fo_syntax.specs.View.{term_view}
+use Rattle.grammar.specs.Terminals.{toks}
+use Rattle.grammar.specs.View.{term_view}
 use Rattle.token_reader.proofs.Inside.{fails_in}
 use Rattle.formula_reader.proofs.InFactors.{fold_no_colon, in_fold_term, unclosed_fold, to_the_brace}
 use Rattle.formula_reader.proofs.expressions.Reader.weighed.Goals as goal

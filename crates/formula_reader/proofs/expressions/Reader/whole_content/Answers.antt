@@ -1,11 +1,11 @@
 use Rattle.std.proofs.Common.{true}
 use Rattle.std.proofs.lemmas.Result.{err_from_is_err_and}
-use Rattle.fo_syntax.specs.Terminals.{toks}
-use Rattle.fo_syntax.specs.Trees.{atom, prim}
-use Rattle.fo_syntax.specs.Spelling.{put_unary}
+use Rattle.grammar.specs.Terminals.{toks}
+use Rattle.grammar.specs.Trees.{atom, prim}
+use Rattle.grammar.specs.Spelling.{put_unary}
 use Rattle.token_reader.specs.Sorts.{app_formula, app_unary}
 use Rattle.token_reader.specs.Machine.{unsettled}
-use Rattle.fo_syntax.specs.View.{unary_view, formula_view, app_view}
+use Rattle.grammar.specs.View.{unary_view, formula_view, app_view}
 use Rattle.formula_reader.specs.Results.{wrap_prim}
 use Rattle.token_reader.proofs.Inside.{fails_in}
 use Rattle.formula_reader.proofs.InOperands.{app_is, wrap_prim_fine}

@@ -1,9 +1,9 @@
 use Rattle.std.proofs.Common.{◌∷◌, ◌∙◌, []}
 use Rattle.std.proofs.lemmas.Result.{err_from_is_err_and}
-use Rattle.fo_syntax.specs.Terminals.{toks, tok_at, word}
-use Rattle.fo_syntax.specs.Trees.{atom}
-use Rattle.fo_syntax.specs.Spelling.{put_name, put_prim}
-use Rattle.fo_syntax.specs.View.{name_view, app_view}
+use Rattle.grammar.specs.Terminals.{toks, tok_at, word}
+use Rattle.grammar.specs.Trees.{atom}
+use Rattle.grammar.specs.Spelling.{put_name, put_prim}
+use Rattle.grammar.specs.View.{name_view, app_view}
 use Rattle.formula_reader.specs.Results.{wrap_prim}
 use Rattle.token_reader.proofs.Inside.{fails_in}
 use Rattle.formula_reader.proofs.InOperands.{in_word, word_is, arguments_from, app_unsealed, operand_from}

@@ -1,6 +1,7 @@
 use Rattle.std.proofs.Common.{sym, ◌∙◌, subst}
 use Rattle.search_log.specs.Entries.{AreEntries}
-use Rattle.search_engine.proofs.LogFacts.{excludes-logged, excludes-stays, on-err, resting-logged, stays-logged, stays-only}
+use Rattle.search_engine.proofs.LogFacts.{excludes-logged, excludes-stays, on-err, resting-logged, stays-logged}
+use Rattle.search_engine.proofs.LogFacts.{stays-only}
 use Rattle.search_engine.proofs.LogFacts.{taken-back}
 use Rattle.search_engine.proofs.engine.Engine.exclude.Goals as goal
 

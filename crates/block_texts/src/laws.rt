@@ -1,7 +1,0 @@
-//! Laws of structure blocks that are printed.
-ghost use Rattle.block_texts.specs.Laws.{BlocksAreSpelled};
-
-/// The text of a block is that of one structure block of the grammar, which is read as what was written.
-pub fn blocks_are_spelled()
-    ensures { BlocksAreSpelled }
-{}

@@ -1,4 +1,0 @@
-pub mod Capped
-pub mod Noting
-pub mod TupleSets
-pub mod WordRows

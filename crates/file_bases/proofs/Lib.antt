@@ -1,4 +1,0 @@
-mod Placed
-mod Consistent
-mod BoundedBases
-mod CanBeGrounded

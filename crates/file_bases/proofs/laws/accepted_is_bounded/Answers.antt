@@ -1,5 +1,0 @@
-use Rattle.file_bases.proofs.BoundedBases.{accepted_is_bounded}
-use Rattle.file_bases.proofs.laws.accepted_is_bounded.Goals as goal
-
-pub returns : goal.returns
-returns c = accepted_is_bounded c.accepted_are_bounded.ensures

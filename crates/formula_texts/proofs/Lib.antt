@@ -1,6 +1,0 @@
-pub mod FormulaApart
-pub mod FormulaLaying
-pub mod FormulaTexts
-pub mod Speaking
-pub mod SpeakingTexts
-pub mod ReadBack

@@ -1,6 +1,0 @@
-use Rattle.std.proofs.Common.{◌≡◌, map, take}
-use Rattle.kb_sizes.specs.Ranges.{range_view, ranges_in}
-use Rattle.kb_sizes.proofs.domain_integers.domain_ranges.Given as goal
-
-abbrev pub invariant-loop-domain : goal.invariant-loop-domain
-invariant-loop-domain l = map range_view l.ranges.items ≡ ranges_in (take l.domain-index l.domain-items)

@@ -1,6 +1,0 @@
-use Rattle.std.proofs.Common.{◌≡◌, ◌++◌, drop, map}
-use Rattle.kb_sizes.specs.Counted.{count_in}
-use Rattle.kb_sizes.proofs.type_sizes.counts_of.Given as goal
-
-abbrev pub invariant-loop-data : goal.invariant-loop-data
-invariant-loop-data l = l.counts.items ++ map count_in (drop l.data-index l.types) ≡ map count_in l.types

@@ -1,0 +1,15 @@
+pub mod Entries
+pub mod FormulaPrints
+pub mod FormulaTexts
+pub mod Formulas
+pub mod Meanings
+pub mod Names
+pub mod Parts
+pub mod ReadBlocks
+pub mod ReadFormulas
+pub mod Saying
+pub mod Speaking
+pub mod SpelledBlocks
+pub mod Texts
+pub mod TokenLaws
+pub mod Written

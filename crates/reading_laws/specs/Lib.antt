@@ -1,0 +1,11 @@
+pub mod CellExamples
+pub mod CellLaws
+pub mod DataLaws
+pub mod Examples
+pub mod FileExamples
+pub mod SizeLaws
+pub mod SizesExamples
+pub mod Vocabularies
+pub mod WellTyped
+pub mod Words
+pub mod Written

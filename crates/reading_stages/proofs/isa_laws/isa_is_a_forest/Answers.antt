@@ -1,6 +1,0 @@
-use Rattle.reading_stages.proofs.Forest.{forest}
-use Rattle.reading_stages.proofs.Ranks.{ranked}
-use Rattle.reading_stages.proofs.isa_laws.isa_is_a_forest.Goals as goal
-
-pub returns : goal.returns
-returns c = λ parents none. forest parents (ranked parents none).0 (ranked parents none).1

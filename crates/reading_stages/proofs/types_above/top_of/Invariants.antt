@@ -1,8 +1,0 @@
-use Rattle.std.proofs.Common.{◌≡◌, ◌+◌, ℕ, length}
-use Rattle.reading_stages.specs.Below.{type_parents}
-use Rattle.reading_stages.specs.Kinship.{climbed, top_of}
-use Rattle.reading_stages.proofs.types_above.top_of.Given as goal
-
-abbrev pub invariant-loop-step : goal.invariant-loop-step
-invariant-loop-step l = (m : ℕ) → m + l._step ≡ length l.types → climbed m (type_parents l.types) l.at
-    ≡ top_of l.types l.ty

@@ -1,0 +1,12 @@
+use Rattle.std.proofs.Common.{◌∙◌, ap}
+use Rattle.std.proofs.lemmas.Result.{IfOk-weaker}
+use Rattle.stage_definitions.specs.SizesStage.{capped}
+use Rattle.size_stage.specs.Counted.{count_in}
+use Rattle.size_stage.proofs.Counting.{counted_listed}
+use Rattle.size_stage.proofs.type_sizes.count_of.Goals as goal
+
+pub returns : goal.returns
+returns c =
+    let x = c.args.of.now in
+    IfOk-weaker c.exact.result _ _ (λ n h. h (count_in x) (c.count.ensures c.requires.cells c.requires.elements
+    ∙ ap capped (counted_listed x c.requires))) c.exact.ensures

@@ -1,5 +1,0 @@
-use Rattle.structure_laws.proofs.Covered.{covered_is_each}
-use Rattle.structure_laws.proofs.cell_laws.covered_is_each.Goals as goal
-
-pub returns : goal.returns
-returns c = covered_is_each

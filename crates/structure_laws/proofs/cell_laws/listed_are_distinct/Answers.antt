@@ -1,5 +1,0 @@
-use Rattle.structure_laws.proofs.Sharing.{listed_are_distinct}
-use Rattle.structure_laws.proofs.cell_laws.listed_are_distinct.Goals as goal
-
-pub returns : goal.returns
-returns c = listed_are_distinct

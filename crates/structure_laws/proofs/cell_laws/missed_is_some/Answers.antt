@@ -1,5 +1,0 @@
-use Rattle.structure_laws.proofs.Missing.{missed_is_some}
-use Rattle.structure_laws.proofs.cell_laws.missed_is_some.Goals as goal
-
-pub returns : goal.returns
-returns c = missed_is_some

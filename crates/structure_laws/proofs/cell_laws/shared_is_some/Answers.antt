@@ -1,5 +1,0 @@
-use Rattle.structure_laws.proofs.Sharing.{shared_is_some}
-use Rattle.structure_laws.proofs.cell_laws.shared_is_some.Goals as goal
-
-pub returns : goal.returns
-returns c = shared_is_some

@@ -1,5 +1,0 @@
-use Rattle.structure_laws.proofs.Rows.{accepted_is_given}
-use Rattle.structure_laws.proofs.data_laws.accepted_is_given.Goals as goal
-
-pub returns : goal.returns
-returns c = accepted_is_given

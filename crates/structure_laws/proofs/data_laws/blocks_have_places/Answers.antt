@@ -1,5 +1,0 @@
-use Rattle.structure_laws.proofs.IntegerPlaces.{blocks_have_places}
-use Rattle.structure_laws.proofs.data_laws.blocks_have_places.Goals as goal
-
-pub returns : goal.returns
-returns c = blocks_have_places

@@ -1,5 +1,0 @@
-use Rattle.structure_laws.proofs.Consistent.{given_is_consistent}
-use Rattle.structure_laws.proofs.data_laws.given_is_consistent.Goals as goal
-
-pub returns : goal.returns
-returns c = given_is_consistent

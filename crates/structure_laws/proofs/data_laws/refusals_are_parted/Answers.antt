@@ -1,5 +1,0 @@
-use Rattle.structure_laws.proofs.Rows.{refusals_are_parted}
-use Rattle.structure_laws.proofs.data_laws.refusals_are_parted.Goals as goal
-
-pub returns : goal.returns
-returns c = refusals_are_parted

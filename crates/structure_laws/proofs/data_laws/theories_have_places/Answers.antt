@@ -1,5 +1,0 @@
-use Rattle.structure_laws.proofs.IntegerPlaces.{theories_have_places}
-use Rattle.structure_laws.proofs.data_laws.theories_have_places.Goals as goal
-
-pub returns : goal.returns
-returns c = theories_have_places

@@ -1,5 +1,0 @@
-use Rattle.structure_laws.proofs.Bounded.{small_term_is_bounded}
-use Rattle.structure_laws.proofs.size_laws.small_term_is_bounded.Goals as goal
-
-pub returns : goal.returns
-returns c = small_term_is_bounded

@@ -1,5 +1,0 @@
-use Rattle.structure_laws.proofs.BoundPlaces.{theories_have_bounds}
-use Rattle.structure_laws.proofs.size_laws.theories_have_bounds.Goals as goal
-
-pub returns : goal.returns
-returns c = theories_have_bounds

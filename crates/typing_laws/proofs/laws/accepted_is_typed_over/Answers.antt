@@ -1,5 +1,0 @@
-use Rattle.typing_laws.proofs.Accepted.{accepted_is_typed_over}
-use Rattle.typing_laws.proofs.laws.accepted_is_typed_over.Goals as goal
-
-pub returns : goal.returns
-returns c = accepted_is_typed_over c.theories_have_places.ensures c.blocks_have_places.ensures

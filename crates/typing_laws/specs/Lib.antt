@@ -1,2 +1,0 @@
-pub mod WellTyped
-pub mod Vocabularies

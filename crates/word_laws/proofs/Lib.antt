@@ -1,4 +1,0 @@
-pub mod TokenWords
-pub mod BlockWords
-mod DomainWords
-pub mod Accepted
