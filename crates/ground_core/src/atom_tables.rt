@@ -1,6 +1,7 @@
 //! The ground atoms of a problem's first variables.
 //!
-//! A table keeps the symbols and domains that its atoms are over, and how many these are. An atom takes no memory.
+//! A table keeps the symbols and domains that its atoms are over, and how many these are. An atom takes no memory. Copies
+//! of a table share the domains: a copy of 256 types of 65,536 elements would take 0.5 GiB.
 ghost use Rattle.std.specs.Prelude.{◌≡◌, ◌≤◌, ◌^◌, length, IfOk};
 ghost use Rattle.ground_core.specs.Atoms.{ground_atoms};
 
@@ -9,12 +10,13 @@ use crate::atoms::all_atoms;
 use kb_logic::{Copied, DomainList, ElemList, ListOf, LiteralList, Symbol};
 use std::alloc::{AllocError as Memory, Global};
 use std::marker::Model;
+use std::rc::Rc;
 
 /// All ground atoms over some symbols and domains, and how many they are.
 #[derive(Drop)]
 pub(crate) struct AllAtoms {
     pub symbols: ListOf<Symbol>,
-    pub domains: DomainList,
+    pub domains: Rc<DomainList>,
     pub count: usize,
 }
 
@@ -55,6 +57,23 @@ fn copied_list<T: Copied + Drop>(alloc: Global, items: &[T]) -> Result<ListOf<T>
     Ok(ListOf::from_vec(list))
 }
 
+/// A copy of the domains that is to be shared.
+fn shared(alloc: Global, domains: &[ElemList]) -> Result<Rc<DomainList>, Memory>
+    ensures { IfOk result (λ copy. copy.value ≡ domains.now) }
+{
+    match Rc::new(alloc, copied_list(alloc, domains)?) {
+        Ok(copy) => Ok(copy),
+        Err(_) => Err(Memory),
+    }
+}
+
+/// The domains that are shared.
+fn lists(domains: &Rc<DomainList>) -> &[ElemList]
+    ensures { result.now ≡ domains.now.value }
+{
+    domains.as_slice()
+}
+
 impl AtomTable {
     /// The ground atoms over these symbols and domains: the symbols as declared, the tuples of arguments
     /// of each in domain order, then the values in domain order. What it takes is linear in the symbols and elements.
@@ -73,7 +92,7 @@ impl AtomTable {
         Ok(AtomTable {
             atoms: TableAtoms::All(AllAtoms {
                 symbols: copied_list(alloc, symbols)?,
-                domains: copied_list(alloc, domains)?,
+                domains: shared(alloc, domains)?,
                 count,
             }),
         })
@@ -103,11 +122,7 @@ impl AtomTable {
         ensures { IfOk result (λ atoms. atoms ≡ self.now) }
     {
         match &self.atoms {
-            TableAtoms::All(all) => all_atoms(
-                alloc,
-                all.symbols.as_slice(),
-                all.domains.as_slice(),
-            ),
+            TableAtoms::All(all) => all_atoms(alloc, all.symbols.as_slice(), lists(&all.domains)),
             TableAtoms::Listed(atoms) => Ok(atoms.copy(alloc)?),
         }
     }
@@ -119,7 +134,7 @@ impl AtomTable {
         let atoms = match &self.atoms {
             TableAtoms::All(all) => TableAtoms::All(AllAtoms {
                 symbols: all.symbols.copy(alloc)?,
-                domains: all.domains.copy(alloc)?,
+                domains: Rc::clone(&all.domains)?,
                 count: all.count,
             }),
             TableAtoms::Listed(atoms) => TableAtoms::Listed(atoms.copy(alloc)?),
